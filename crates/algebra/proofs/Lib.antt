@@ -1,0 +1,9 @@
+pub mod Ints
+pub mod Ring
+pub mod Cert
+pub mod Quote
+pub mod Division
+pub mod Fits
+pub mod Enclosure
+pub mod Narrowness
+pub mod MixRatio

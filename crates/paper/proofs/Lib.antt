@@ -1,0 +1,3 @@
+pub mod Covering
+pub mod EndsForm
+pub mod Estimating

@@ -1,0 +1,7 @@
+pub mod Numbers
+pub mod Sums
+pub mod Forms
+pub mod EndsForm
+pub mod Books
+pub mod Sources
+pub mod Laws
