@@ -1,0 +1,4 @@
+pub mod Grounds
+pub mod Limits
+pub mod Stored
+pub mod Keying
