@@ -1,0 +1,57 @@
+// The estimated source: the next amounts over the exposures, of the rows whose exposure is above 0.
+ghost use mathlib.Core.Path.{_≡_};
+ghost use Prim.Native.Nat.{ℕ, _+_, _<_};
+ghost use Rattle.std.specs.Vec.{made};
+ghost use Rattle.paper.specs.Numbers.{Amount, point};
+ghost use Rattle.paper.specs.Sources.{estimated, row-cause, rows-cause, seen};
+ghost use Rattle.paper.specs.Laws.{Asked-within};
+ghost use Rattle.book.specs.Stored.{book-of};
+ghost use Rattle.sources.specs.Estimates.{totals-through, unless-cause};
+use book::faults::Fault;
+use book::faults::FormResultPlacing;
+use book::faults::Ground;
+use book::faults::Origin;
+use book::faults::Place;
+use book::faults::Placing;
+use book::kinds::Book;
+use crate::exact::following;
+use crate::exact::gathered;
+use crate::source::asked_within;
+use crate::source::FactorSource;
+use forms::ProjectingForm;
+use forms::SummingForm;
+use forms::whole::read;
+use forms::whole::WholeSums;
+
+#[derive(Clone, Copy)]
+pub struct Estimated;
+
+// The next amounts and the exposures of the rows so far.
+#[derive(Clone, Copy)]
+pub struct Totals {
+    pub amounts: i64,
+    pub exposures: i64,
+}
+
+// The totals with row i; a row with exposure 0 does not count, and its next amount neither.
+fn with_row(book: &Book, m: usize, k: usize, i: usize, so_far: Totals) -> Result<Totals, Fault>
+    requires asked { ⌜ Asked-within (book-of (now book)) m k ⌝ }
+    requires row { ⌜ i < seen (book-of (now book)) k ⌝ }
+    requires totals { ⌜ «so_far» ≡ totals-through (book-of (now book)) m k i ⌝ }
+    requires kept { ⌜ Amount (point («so_far» .exposures)) ⌝ }
+    ensures value { λ r. ⌜ r ≡ unless-cause m k (row-cause (book-of (now (book .entry))) m k i) (totals-through (book-of (now (book .entry))) m k (i + 1)) ⌝ }
+    ensures kept { λ r. ⌜ made r (λ t. Amount (point (t .exposures))) ⌝ }
+{
+    let place = Place { property: m, row: i, column: k };
+    let own = gathered(book, m, i, k)?;
+    if own < 0 {
+        return Err(Fault { ground: Ground::NegativeExposure, origin: Origin::OfSource, place, layers: 0 });
+    }
+    let sum = so_far.exposures.plus(&own).at(place)?;
+    let exposures = read(&sum);
+    if own == 0 {
+        return Ok(Totals { amounts: so_far.amounts, exposures });
+    }
+    let next = following(book, m, i, k);
+    Ok(Totals { amounts: so_far.amounts + next, exposures })
+}
