@@ -83,7 +83,7 @@ err-is : {V W : Type 0} (m k : ℕ) (o : Option Cause) (f : Fault) (v : V) (w : 
 err-is m k (Some c) f v w e = let h : f ≡ cause-fault m k 0 c = cc in ap Err h
 err-is m k None f v w e = absurd (let z : _≡_ {A = ℕ} 0 1 = cc in omega arith)
 
-ok-is : {V : Type 0} (m k : ℕ) (o : Option Cause) (v w : V) → Ok w ≡ unless-cause m k o v → (o ≡ None) × (w ≡ v)
+pub ok-is : {V : Type 0} (m k : ℕ) (o : Option Cause) (v w : V) → Ok w ≡ unless-cause m k o v → (o ≡ None) × (w ≡ v)
 ok-is m k (Some c) v w e = absurd (let z : _≡_ {A = ℕ} 0 1 = cc in omega arith)
 ok-is m k None v w e = (refl, cc)
 
@@ -243,3 +243,30 @@ sum-fits a x n h l p q = omega (arith, ints)
 
 pub entry-back : (x : ℤ) → negsuc 999999999 ≤ℤ x → x ≤ℤ pos 1000000000 → toZ w64 (ofZ w64 x) ≡ x
 entry-back x p q = omega (arith, ints)
+
+-- ---- the rows one after the other
+pub rising-more : (i n : ℕ) → i < n → rising i (n - i) ≡ i ∷ rising (i + 1) (n - (i + 1))
+rising-more i n h = let e : n - i ≡ suc (n - (i + 1)) = omega arith in ap (rising i) e
+
+pub rising-done : (i n : ℕ) → n ≤ i → rising i (n - i) ≡ []
+rising-done i n h = let e : n - i ≡ 0 = omega arith in ap (rising i) e
+
+module _ (b : paper.Book) (m k i n : ℕ) (all : Option Cause) (left : first-of (row-cause b m k) (rising i (n - i)) ≡ all) where
+  rows-left : i < n → or-else (row-cause b m k i) (first-of (row-cause b m k) (rising (i + 1) (n - (i + 1)))) ≡ all
+  rows-left h = sym (ap (first-of (row-cause b m k)) (rising-more i n h)) ∙ left
+
+  pub row-passed : i < n → (t : Totals) → Ok t ≡ unless-cause m k (row-cause b m k i) (totals-through b m k (i + 1)) →
+      (t ≡ totals-through b m k (i + 1)) × (first-of (row-cause b m k) (rising (i + 1) (n - (i + 1))) ≡ all)
+  row-passed h t e =
+      let p = ok-is m k (row-cause b m k i) (totals-through b m k (i + 1)) t e in
+      (p .1, sym (ap (λ o. or-else o (first-of (row-cause b m k) (rising (i + 1) (n - (i + 1))))) (p .0)) ∙ rows-left h)
+
+  pub row-stops : i < n → (f : Fault) → Err f ≡ unless-cause m k (row-cause b m k i) (totals-through b m k (i + 1)) → (v : Totals) → Err f ≡ unless-cause m k all v
+  row-stops h f e v = go (row-cause b m k i) (err-is m k (row-cause b m k i) f (totals-through b m k (i + 1)) v e) (rows-left h)
+    where
+      go : (o : Option Cause) → Err f ≡ unless-cause m k o v → or-else o (first-of (row-cause b m k) (rising (i + 1) (n - (i + 1)))) ≡ all → Err f ≡ unless-cause m k all v
+      go (Some c) e p = e ∙ ap (λ o. unless-cause m k o v) p
+      go None e p = absurd (let z : _≡_ {A = ℕ} 0 1 = cc in omega arith)
+
+  pub rows-done : n ≤ i → all ≡ None
+  rows-done h = sym left ∙ ap (first-of (row-cause b m k)) (rising-done i n h)

@@ -55,3 +55,32 @@ fn with_row(book: &Book, m: usize, k: usize, i: usize, so_far: Totals) -> Result
     let next = following(book, m, i, k);
     Ok(Totals { amounts: so_far.amounts + next, exposures })
 }
+
+// The totals of every row that has the next column observed.
+fn all_rows(book: &Book, m: usize, k: usize) -> Result<Totals, Fault>
+    requires { ⌜ Asked-within (book-of (now book)) m k ⌝ }
+    ensures value { λ r. ⌜ r ≡ unless-cause m k (rows-cause (book-of (now (book .entry))) m k) (totals-through (book-of (now (book .entry))) m k (seen (book-of (now (book .entry))) k)) ⌝ }
+    ensures kept { λ r. ⌜ made r (λ t. Amount (point (t .exposures))) ⌝ }
+{
+    let mut so_far = Totals { amounts: 0, exposures: 0 };
+    for i in 0..book.sizes.rows - (k + 1) {
+        so_far = with_row(book, m, k, i, so_far)?;
+    }
+    Ok(so_far)
+}
+
+pub impl FactorSource for Estimated as EstimatedSource {
+    ghost depth = { λ _. 1 };
+
+    ghost means = { λ _ b m k. estimated b m k };
+
+    fn factor<F: ProjectingForm>(&self, book: &Book, m: usize, k: usize) -> Result<F::Factor, Fault> {
+        asked_within(book, m, k)?;
+        let totals = all_rows(book, m, k)?;
+        let place = Place { property: m, row: 0, column: k };
+        if totals.exposures == 0 {
+            return F::exact(0).at(place);
+        }
+        F::ratio(totals.amounts, totals.exposures).at(place)
+    }
+}
