@@ -1,0 +1,3 @@
+// Lines of calls on one book, and the law that every outcome keeps beside the paper run.
+pub mod calls;
+pub mod run;
