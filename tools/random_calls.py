@@ -1,5 +1,5 @@
 #!/usr/bin/env python3
-"""Random calls for rulkhaved, to compare the program with tools/fractions.py.
+"""Random calls for rulkhaved, to compare the program with tools/reference.py.
 
     python3 tools/random_calls.py SEED COUNT > calls.txt
 

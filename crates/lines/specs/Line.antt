@@ -26,39 +26,37 @@ use Rattle.sources.specs.Asked.{answer-in}
 use Rattle.engine.specs.Held.{of-draft, of-closed}
 use Rattle.lines.specs.declared.calls.Call.{Call}
 use Rattle.lines.specs.declared.calls.Call.the-variants.{Enter, AddTerm, Close, AskFactor, Reopen}
+use Rattle.lines.specs.declared.calls.State.{State}
+use Rattle.lines.specs.declared.calls.State.the-variants.{Drafted, Closed}
 use Rattle.lines.specs.declared.calls.Outcome.{Outcome}
 use Rattle.lines.specs.declared.calls.Outcome.the-variants.{NotTaken, Accepted, Between, Refused}
 use Rattle.lines.specs.declared.calls.AnyBook.{AnyBook}
 use Rattle.lines.specs.declared.calls.AnyBook.the-variants.{InDraft, InClosed}
 
 -- ---- the paper run
-pub data Phase : Type 0 where
-  draft : Phase
-  closed : Phase
-
 -- what it knows between two calls: the sizes, the amounts and the rules, and which calls the book takes
 pub record Paper : Type 0 where
-  pub phase : Phase
+  pub state : State
   pub book : Book
 
 abbrev pub opening : Sizes → Paper
-opening s = record { phase = draft; book = opened (s .properties) (s .rows) (s .columns) }
+opening s = record { state = Drafted; book = opened (s .properties) (s .rows) (s .columns) }
 
-abbrev pub takes : Phase → Call → Bool
-takes draft (Enter m i k a) = true
-takes draft (AddTerm m t) = true
-takes draft Close = true
-takes draft (AskFactor m k) = false
-takes draft Reopen = false
-takes closed (Enter m i k a) = false
-takes closed (AddTerm m t) = false
-takes closed Close = false
-takes closed (AskFactor m k) = true
-takes closed Reopen = true
+abbrev pub takes : State → Call → Bool
+takes Drafted (Enter m i k a) = true
+takes Drafted (AddTerm m t) = true
+takes Drafted Close = true
+takes Drafted (AskFactor m k) = false
+takes Drafted Reopen = false
+takes Closed (Enter m i k a) = false
+takes Closed (AddTerm m t) = false
+takes Closed Close = false
+takes Closed (AskFactor m k) = true
+takes Closed Reopen = true
 
 -- whether a call was accepted: all that the paper run is told of its outcome
 abbrev pub accepted : Outcome → Bool
-accepted NotTaken = false
+accepted (NotTaken state) = false
 accepted Accepted = true
 accepted (Between lo hi) = true
 accepted (Refused f) = false
@@ -71,15 +69,15 @@ changed b Close = b
 changed b (AskFactor m k) = b
 changed b Reopen = b
 
-abbrev pub phase-after : Phase → Call → Phase
-phase-after p (Enter m i k a) = p
-phase-after p (AddTerm m t) = p
-phase-after p Close = closed
-phase-after p (AskFactor m k) = p
-phase-after p Reopen = draft
+abbrev pub state-after : State → Call → State
+state-after p (Enter m i k a) = p
+state-after p (AddTerm m t) = p
+state-after p Close = Closed
+state-after p (AskFactor m k) = p
+state-after p Reopen = Drafted
 
 abbrev pub paper-next : Paper → Call → Bool → Paper
-paper-next s call true = record { phase = phase-after (s .phase) call; book = changed (s .book) call }
+paper-next s call true = record { state = state-after (s .state) call; book = changed (s .book) call }
 paper-next s call false = s
 
 -- ---- the steps of a call, in fractions
@@ -173,10 +171,10 @@ abbrev pub Ceiling-excused : Fault → List PaperStep → Type 0
 Ceiling-excused f ss = (number (f .ground) ≡ 14) ⊎ (number (f .ground) ≡ 15) → Some-of (Passing f) ss
 
 abbrev pub Stands : Reading → Paper → Call → Outcome → Type 0
-Stands R s call NotTaken = takes (s .phase) call ≡ false
-Stands R s call Accepted = (takes (s .phase) call ≡ true) × Accepts (s .book) call
-Stands R s call (Between lo hi) = (takes (s .phase) call ≡ true) × Answers R (s .book) call (both lo hi)
-Stands R s call (Refused f) = (takes (s .phase) call ≡ true) × Refuses R (s .book) call f × Ceiling-excused f (steps R (s .book) call)
+Stands R s call (NotTaken state) = (takes (s .state) call ≡ false) × (state ≡ s .state)
+Stands R s call Accepted = (takes (s .state) call ≡ true) × Accepts (s .book) call
+Stands R s call (Between lo hi) = (takes (s .state) call ≡ true) × Answers R (s .book) call (both lo hi)
+Stands R s call (Refused f) = (takes (s .state) call ≡ true) × Refuses R (s .book) call f × Ceiling-excused f (steps R (s .book) call)
 
 -- every call has its outcome, and each stands on the paper's book as the calls before it left it
 abbrev pub Line-stands : Reading → Paper → List Call → List Outcome → Type 0
@@ -198,5 +196,5 @@ pub record Ran (R : Reading) (sizes : Sizes) (calls : List Call) (before after :
 
 -- ---- the paper of a stored book
 abbrev pub paper-of : AnyBook → Paper
-paper-of (InDraft d) = record { phase = draft; book = of-draft d }
-paper-of (InClosed c) = record { phase = closed; book = of-closed c }
+paper-of (InDraft d) = record { state = Drafted; book = of-draft d }
+paper-of (InClosed c) = record { state = Closed; book = of-closed c }

@@ -1,7 +1,7 @@
 // The calls of a line, and what each comes to.
 use book::faults::Fault;
 use book::rules::Term;
-use engine::states::Closed;
+use engine::states::Closed as ClosedBook;
 use engine::states::Draft;
 
 #[derive(Clone, Copy)]
@@ -13,10 +13,17 @@ pub enum Call {
     Reopen,
 }
 
+// Which calls a book takes goes by its state.
+#[derive(Clone, Copy, PartialEq, Eq, Debug)]
+pub enum State {
+    Drafted,
+    Closed,
+}
+
 #[derive(Clone, Copy)]
 pub enum Outcome {
     // the book's state does not take the call
-    NotTaken,
+    NotTaken(State),
     Accepted,
     // the lower and the upper end of what was asked
     Between(i64, i64),
@@ -27,5 +34,5 @@ pub enum Outcome {
 #[derive(Drop)]
 pub enum AnyBook {
     InDraft(Draft),
-    InClosed(Closed),
+    InClosed(ClosedBook),
 }

@@ -9,6 +9,7 @@ use book::kinds::Sizes;
 use crate::calls::AnyBook;
 use crate::calls::Call;
 use crate::calls::Outcome;
+use crate::calls::State;
 use engine::states::Closed;
 use engine::states::Draft;
 use forms::ProjectingForm;
@@ -30,7 +31,7 @@ fn draft_step(draft: Draft, call: Call) -> (AnyBook, Outcome)
             Err(fault) => (AnyBook::InDraft(draft), Outcome::Refused(fault)),
         },
         Call::Close => (AnyBook::InClosed(draft.close()), Outcome::Accepted),
-        _ => (AnyBook::InDraft(draft), Outcome::NotTaken),
+        _ => (AnyBook::InDraft(draft), Outcome::NotTaken(State::Drafted)),
     }
 }
 
@@ -45,7 +46,7 @@ fn closed_step<F: ProjectingForm, S: FactorSource>(source: &S, closed: Closed, c
             Err(fault) => (AnyBook::InClosed(closed), Outcome::Refused(fault)),
         },
         Call::Reopen => (AnyBook::InDraft(closed.reopen()), Outcome::Accepted),
-        _ => (AnyBook::InClosed(closed), Outcome::NotTaken),
+        _ => (AnyBook::InClosed(closed), Outcome::NotTaken(State::Closed)),
     }
 }
 

@@ -5,8 +5,9 @@ use lib.IntN.{pos}
 use lib.ListN.{length, take, drop}
 use Rattle.std.proofs.shelf.Lists.{take-more-set}
 use Rattle.paper.specs.Books.{Book}
-use Rattle.lines.specs.Line.{Paper, Reading, draft, reading, opening, Line-stands}
+use Rattle.lines.specs.Line.{Paper, Reading, reading, opening, Line-stands}
 use Rattle.lines.specs.declared.calls.Call.the-variants.{Enter}
+use Rattle.lines.specs.declared.calls.State.the-variants.{Drafted}
 use Rattle.lines.proofs.Lines.{line-more, rest-more}
 use Rattle.lines.proofs.run.run.Needs as need
 
@@ -22,7 +23,7 @@ loop-j-again g c =
 pub returns : need.returns
 returns g c =
     let R = reading (g .S·FactorSource .means (c .args .source .now)) (g .S·FactorSource .depth (c .args .source .now)) (g .F·ProjectingForm .form) in
-    let begun : Book → Paper = λ b. record { phase = draft; book = b } in
+    let begun : Book → Paper = λ b. record { state = Drafted; book = b } in
     let end : c .loop-j .j ≡ c .min-room .result = omega arith in
     let calls = c .args .calls .now in
     let after = c .loop-j .outcomes in

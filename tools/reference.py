@@ -1,7 +1,7 @@
 #!/usr/bin/env python3
 """What rulkhaved has to print, worked in exact fractions.
 
-    python3 tools/fractions.py < examples/three-rows.calls
+    python3 tools/reference.py < examples/three-rows.calls
 
 Reads calls on standard input, one a line, as the program does, and prints the
 outcome of each. Ends with status 1 if some line was not understood. An empty
@@ -12,18 +12,12 @@ It knows nothing of the engine: it is written from the rules in docs/ alone,
 with Python's whole numbers and fractions, which neither round nor overflow.
 """
 
-import os
 import re
 import sys
 
-# This file has the same name as the library module that it imports, so its own
-# folder must not be searched for that module.
-HERE = os.path.dirname(os.path.realpath(__file__))
-sys.path[:] = [p for p in sys.path if os.path.realpath(p or ".") != HERE]
-
-from collections import namedtuple  # noqa: E402
-from fractions import Fraction  # noqa: E402
-from math import ceil, floor  # noqa: E402
+from collections import namedtuple
+from fractions import Fraction
+from math import ceil, floor
 
 AMOUNT_CEILING = 40_000_000_000  # hundredths
 FACTOR_CEILING = 200_000_000  # ten-millionths
