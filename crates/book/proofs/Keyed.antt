@@ -65,14 +65,14 @@ module _ (s : Sizes) (amounts : List ℤ) (c : Cell) (a : ℤ) (w : Within s c) 
   entered-at : (d : Cell) → amounts-of s (set amounts (place-of s c) a) d ≡ cond (same-cell c d) a (amounts-of s amounts d)
   entered-at d =
       ⊎-elim (λ (t : same-cell c d ≡ true).
-               let e = same-place s c d t in
-               ap (λ b. cond b (getD (set amounts (place-of s c) a) (place-of s d) (pos 0)) (pos 0)) (e .0 ∙ within-true s c w)
-               ∙ ap (λ j. getD (set amounts (place-of s c) a) j (pos 0)) (e .1)
-               ∙ getD-set-same amounts (place-of s c) a (pos 0) room
-               ∙ sym (ap (λ b. cond b a (amounts-of s amounts d)) t))
-             (λ (t : same-cell c d ≡ false).
-               other t ∙ sym (ap (λ b. cond b a (amounts-of s amounts d)) t))
-             (cases-bool (same-cell c d))
+      let e = same-place s c d t in
+      ap (λ b. cond b (getD (set amounts (place-of s c) a) (place-of s d) (pos 0)) (pos 0)) (e .0 ∙ within-true s c w)
+      ∙ ap (λ j. getD (set amounts (place-of s c) a) j (pos 0)) (e .1)
+      ∙ getD-set-same amounts (place-of s c) a (pos 0) room
+      ∙ sym (ap (λ b. cond b a (amounts-of s amounts d)) t))
+      (λ (t : same-cell c d ≡ false).
+      other t ∙ sym (ap (λ b. cond b a (amounts-of s amounts d)) t))
+      (cases-bool (same-cell c d))
     where
       clash : same-cell c d ≡ true → same-cell c d ≡ false → ⊥
       clash t f = let z : true ≡ false = sym t ∙ f in absurd (no z)
@@ -83,12 +83,12 @@ module _ (s : Sizes) (amounts : List ℤ) (c : Cell) (a : ℤ) (w : Within s c) 
       other : same-cell c d ≡ false → amounts-of s (set amounts (place-of s c) a) d ≡ amounts-of s amounts d
       other f =
           ⊎-elim (λ (t : in-sizes s d ≡ true).
-                   let ne : place-of s d ≢ place-of s c = λ e. clash (place-same s c d w (true-within s d t) (sym e)) f in
-                   ap (λ x. cond (in-sizes s d) x (pos 0)) (getD-set-other amounts (place-of s c) (place-of s d) a (pos 0) ne))
-                 (λ (t : in-sizes s d ≡ false).
-                   ap (λ b. cond b (getD (set amounts (place-of s c) a) (place-of s d) (pos 0)) (pos 0)) t
-                   ∙ sym (ap (λ b. cond b (getD amounts (place-of s d) (pos 0)) (pos 0)) t))
-                 (cases-bool (in-sizes s d))
+          let ne : place-of s d ≢ place-of s c = λ e. clash (place-same s c d w (true-within s d t) (sym e)) f in
+          ap (λ x. cond (in-sizes s d) x (pos 0)) (getD-set-other amounts (place-of s c) (place-of s d) a (pos 0) ne))
+          (λ (t : in-sizes s d ≡ false).
+          ap (λ b. cond b (getD (set amounts (place-of s c) a) (place-of s d) (pos 0)) (pos 0)) t
+          ∙ sym (ap (λ b. cond b (getD amounts (place-of s d) (pos 0)) (pos 0)) t))
+          (cases-bool (in-sizes s d))
 
   pub entered-is : (rules : List Rule) → book-from s (set amounts (place-of s c) a) rules ≡ with-entry (book-from s amounts rules) c a
   entered-is rules =
@@ -105,16 +105,16 @@ module _ (s : Sizes) (amounts : List ℤ) (rules : List Rule) (m : ℕ) (t : Ter
   added-at : (l : ℕ) → terms-of (rule-at (set rules m (longer (rule-at rules m) t)) l) ≡ cond (eqb m l) (terms-of (rule-at rules l) ++ (term-of t ∷ [])) (terms-of (rule-at rules l))
   added-at l =
       ⊎-elim (λ (e : m ≡ l).
-               ap (λ j. terms-of (rule-at (set rules m (longer (rule-at rules m) t)) j)) (sym e)
-               ∙ ap terms-of (getD-set-same rules m (longer (rule-at rules m) t) no-rule here)
-               ∙ longer-terms (rule-at rules m) t room
-               ∙ ap (λ j. terms-of (rule-at rules j) ++ (term-of t ∷ [])) e
-               ∙ sym (ap (λ b. cond b (terms-of (rule-at rules l) ++ (term-of t ∷ [])) (terms-of (rule-at rules l))) (eq-eqb m l e)))
-             (λ (n : m ≡ l → ⊥).
-               let ne : l ≢ m = λ e. n (sym e) in
-               ap terms-of (getD-set-other rules m l (longer (rule-at rules m) t) no-rule ne)
-               ∙ sym (ap (λ b. cond b (terms-of (rule-at rules l) ++ (term-of t ∷ [])) (terms-of (rule-at rules l))) (ne-eqb m l n)))
-             (cases-eq m l)
+      ap (λ j. terms-of (rule-at (set rules m (longer (rule-at rules m) t)) j)) (sym e)
+      ∙ ap terms-of (getD-set-same rules m (longer (rule-at rules m) t) no-rule here)
+      ∙ longer-terms (rule-at rules m) t room
+      ∙ ap (λ j. terms-of (rule-at rules j) ++ (term-of t ∷ [])) e
+      ∙ sym (ap (λ b. cond b (terms-of (rule-at rules l) ++ (term-of t ∷ [])) (terms-of (rule-at rules l))) (eq-eqb m l e)))
+      (λ (n : m ≡ l → ⊥).
+      let ne : l ≢ m = λ e. n (sym e) in
+      ap terms-of (getD-set-other rules m l (longer (rule-at rules m) t) no-rule ne)
+      ∙ sym (ap (λ b. cond b (terms-of (rule-at rules l) ++ (term-of t ∷ [])) (terms-of (rule-at rules l))) (ne-eqb m l n)))
+      (cases-eq m l)
 
   pub added-is : book-from s amounts (set rules m (longer (rule-at rules m) t)) ≡ with-last-term (book-from s amounts rules) m (term-of t)
   added-is =

@@ -30,8 +30,8 @@ pub parts-same : (a b x y d : ℕ) → x < d → y < d → a * d + x ≡ b * d +
 parts-same a b x y d h k e =
     let P = (a ≡ b) × (x ≡ y) in
     ⊎-elim (λ (s : a ≡ b). same s)
-           (λ (o : (a < b) ⊎ (b < a)). ⊎-elim (λ (l : a < b). absurd (clash a b x y h l e)) (λ (l : b < a). absurd (clash-back l)) o)
-           (cases-order a b)
+    (λ (o : (a < b) ⊎ (b < a)). ⊎-elim (λ (l : a < b). absurd (clash a b x y h l e)) (λ (l : b < a). absurd (clash-back l)) o)
+    (cases-order a b)
   where
     clash : (a b x y : ℕ) → x < d → a < b → a * d + x ≡ b * d + y → ⊥
     clash a b x y h l e = let s : a + 1 ≤ b = omega arith in omega (arith, mul-le-mul-right d s)

@@ -98,8 +98,18 @@ pub impl<V> Placing for Result<V, FormFault> as FormResultPlacing {
     fn at(self, place: Place) -> Result<V, Fault> {
         match self {
             Ok(v) => Ok(v),
-            Err(FormFault::AmountCeiling) => Err(Fault { ground: Ground::AmountCeiling, origin: Origin::OfForm, place, layers: 0 }),
-            Err(FormFault::FactorCeiling) => Err(Fault { ground: Ground::FactorCeiling, origin: Origin::OfForm, place, layers: 0 }),
+            Err(FormFault::AmountCeiling) => Err(Fault {
+                ground: Ground::AmountCeiling,
+                origin: Origin::OfForm,
+                place,
+                layers: 0,
+            }),
+            Err(FormFault::FactorCeiling) => Err(Fault {
+                ground: Ground::FactorCeiling,
+                origin: Origin::OfForm,
+                place,
+                layers: 0,
+            }),
         }
     }
 }

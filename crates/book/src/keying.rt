@@ -23,7 +23,16 @@ const ENTRY_LIMIT: i64 = 1_000_000_000;
 fn declined<T>(ground: Ground, property: usize, row: usize, column: usize) -> Result<T, Fault>
     ensures { λ r. ⌜ r ≡ Err (fault-at OfBook (at-place property row column) 0 ground) ⌝ }
 {
-    Err(Fault { ground, origin: Origin::OfBook, place: Place { property, row, column }, layers: 0 })
+    Err(Fault {
+        ground,
+        origin: Origin::OfBook,
+        place: Place {
+            property,
+            row,
+            column,
+        },
+        layers: 0,
+    })
 }
 
 impl Book {
@@ -33,7 +42,11 @@ impl Book {
             (λ b. (sizes-fault sizes ≡ None) × (book-of b ≡ opened (sizes .properties) (sizes .rows) (sizes .columns)))
             (λ e. sizes-fault sizes ≡ Some e) ⌝ }
     {
-        let Sizes { properties, rows, columns } = sizes;
+        let Sizes {
+            properties,
+            rows,
+            columns,
+        } = sizes;
         if properties < 1 || properties > 4 {
             return declined(Ground::SizesOutside, 0, 0, 0);
         }
@@ -47,16 +60,20 @@ impl Book {
             return declined(Ground::SizesOutside, 0, 0, 0);
         }
         let rules = RuleTable::empty();
-        Ok(Book { sizes, amounts: [0; 768], rules })
+        Ok(Book {
+            sizes,
+            amounts: [0; 768],
+            rules,
+        })
     }
 
     // Replaces one observed amount.
     pub fn enter(&mut self, m: usize, i: usize, k: usize, amount: i64) -> Result<(), Fault>
         ensures { λ r. ⌜ Cases r
             (λ _. (entry-fault (book-of (now (self .entry))) m i k amount ≡ None)
-                × (book-of (now (self .exit)) ≡ with-entry (book-of (now (self .entry))) (cell-at m i k) amount))
+            × (book-of (now (self .exit)) ≡ with-entry (book-of (now (self .entry))) (cell-at m i k) amount))
             (λ e. (entry-fault (book-of (now (self .entry))) m i k amount ≡ Some e)
-                × (book-of (now (self .exit)) ≡ book-of (now (self .entry)))) ⌝ }
+            × (book-of (now (self .exit)) ≡ book-of (now (self .entry)))) ⌝ }
     {
         if m >= self.sizes.properties {
             return declined(Ground::NoProperty, m, i, k);
@@ -82,9 +99,9 @@ impl Book {
     pub fn add_term(&mut self, m: usize, term: Term) -> Result<(), Fault>
         ensures { λ r. ⌜ Cases r
             (λ _. (term-fault (book-of (now (self .entry))) m term ≡ None)
-                × (book-of (now (self .exit)) ≡ with-last-term (book-of (now (self .entry))) m (term-of term)))
+            × (book-of (now (self .exit)) ≡ with-last-term (book-of (now (self .entry))) m (term-of term)))
             (λ e. (term-fault (book-of (now (self .entry))) m term ≡ Some e)
-                × (book-of (now (self .exit)) ≡ book-of (now (self .entry)))) ⌝ }
+            × (book-of (now (self .exit)) ≡ book-of (now (self .entry)))) ⌝ }
     {
         if m >= self.sizes.properties || term.property >= self.sizes.properties {
             return declined(Ground::NoProperty, m, 0, 0);

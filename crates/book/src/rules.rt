@@ -30,8 +30,18 @@ impl RuleTable {
     pub(crate) fn empty() -> RuleTable
         ensures { λ r. ⌜ r .records ≡ no-rules ⌝ }
     {
-        let term = Term { property: 0, shift: 0, reach: 0, coefficient: 0 };
-        RuleTable { records: [Rule { len: 0, terms: [term; 6] }; 4] }
+        let term = Term {
+            property: 0,
+            shift: 0,
+            reach: 0,
+            coefficient: 0,
+        };
+        RuleTable {
+            records: [Rule {
+                len: 0,
+                terms: [term; 6],
+            }; 4],
+        }
     }
 
     // Adds a term last in the rule of one property; every other rule stays.

@@ -6,12 +6,12 @@ ghost use Rattle.paper.specs.Books.{opened, with-entry, with-last-term, cell-at
 ghost use Rattle.book.specs.Stored.{term-of};
 ghost use Rattle.book.specs.Keying.{sizes-fault, entry-fault, term-fault};
 ghost use Rattle.engine.specs.Held.{of-draft, of-closed};
+use crate::states::Closed;
+use crate::states::Draft;
 use book::faults::Fault;
 use book::kinds::Book;
 use book::kinds::Sizes;
 use book::rules::Term;
-use crate::states::Closed;
-use crate::states::Draft;
 
 impl Draft {
     // A draft with every observed amount 0 and every rule empty.
@@ -25,12 +25,18 @@ impl Draft {
     }
 
     // Replaces the observed amount of one cell; a refusal changes nothing.
-    pub fn enter(&mut self, property: usize, row: usize, column: usize, amount: i64) -> Result<(), Fault>
+    pub fn enter(
+        &mut self,
+        property: usize,
+        row: usize,
+        column: usize,
+        amount: i64,
+    ) -> Result<(), Fault>
         ensures { λ r. ⌜ Cases r
             (λ _. (entry-fault (of-draft (now (self .entry))) property row column amount ≡ None)
-                × (of-draft (now (self .exit)) ≡ with-entry (of-draft (now (self .entry))) (cell-at property row column) amount))
+            × (of-draft (now (self .exit)) ≡ with-entry (of-draft (now (self .entry))) (cell-at property row column) amount))
             (λ e. (entry-fault (of-draft (now (self .entry))) property row column amount ≡ Some e)
-                × (of-draft (now (self .exit)) ≡ of-draft (now (self .entry)))) ⌝ }
+            × (of-draft (now (self .exit)) ≡ of-draft (now (self .entry)))) ⌝ }
     {
         self.book.enter(property, row, column, amount)
     }
@@ -39,9 +45,9 @@ impl Draft {
     pub fn add_term(&mut self, property: usize, term: Term) -> Result<(), Fault>
         ensures { λ r. ⌜ Cases r
             (λ _. (term-fault (of-draft (now (self .entry))) property term ≡ None)
-                × (of-draft (now (self .exit)) ≡ with-last-term (of-draft (now (self .entry))) property (term-of term)))
+            × (of-draft (now (self .exit)) ≡ with-last-term (of-draft (now (self .entry))) property (term-of term)))
             (λ e. (term-fault (of-draft (now (self .entry))) property term ≡ Some e)
-                × (of-draft (now (self .exit)) ≡ of-draft (now (self .entry)))) ⌝ }
+            × (of-draft (now (self .exit)) ≡ of-draft (now (self .entry)))) ⌝ }
     {
         self.book.add_term(property, term)
     }

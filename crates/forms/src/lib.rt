@@ -9,8 +9,8 @@ ghost use Rattle.paper.specs.Sums.{sum-of-ends, multiple-of-ends};
 ghost use Rattle.paper.specs.Forms.{Form, Lawful};
 ghost use Rattle.forms.specs.Told.{told, ceiled, factor-ceiled};
 
-pub mod whole;
 pub mod two_ends;
+pub mod whole;
 
 // What a form refuses with. A form knows no place: its caller adds it.
 #[derive(Clone, Copy, PartialEq, Eq, Debug)]

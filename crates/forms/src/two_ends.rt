@@ -5,14 +5,14 @@ ghost use Rattle.paper.specs.Numbers.{both, Amount, Factor};
 ghost use Rattle.paper.specs.EndsForm.{ends-form};
 ghost use Rattle.forms.specs.Told.{told, ceiled, factor-ceiled};
 ghost use Rattle.forms.specs.Held.{two-ends, factor-ends};
-use algebra::product;
-use algebra::rounded_down;
-use algebra::rounded_up;
 use crate::AMOUNT_CEILING;
 use crate::FACTOR_CEILING;
 use crate::FormFault;
 use crate::ProjectingForm;
 use crate::SummingForm;
+use algebra::product;
+use algebra::rounded_down;
+use algebra::rounded_up;
 
 // Ten-millionths in one.
 const SCALE: i64 = 10_000_000;

@@ -3,10 +3,10 @@ ghost use mathlib.Core.Path.{_≡_};
 ghost use Rattle.paper.specs.Numbers.{point, Amount};
 ghost use Rattle.forms.specs.Told.{told, ceiled};
 ghost use Rattle.forms.specs.Held.{whole-ends};
-use algebra::product;
 use crate::AMOUNT_CEILING;
 use crate::FormFault;
 use crate::SummingForm;
+use algebra::product;
 
 // The number, unless it passes the ceiling.
 fn held(value: i64) -> Result<i64, FormFault>

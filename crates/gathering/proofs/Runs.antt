@@ -69,9 +69,10 @@ module _ (cell : Cell → Ends) (i k : ℕ) where
   with-one : (so-far : Sum Cell) (t : paper.Term) → evaluated cell (with-term i k so-far t) ≡ next (evaluated cell so-far) (λ a. plus-term cell i k a t)
   with-one so-far t =
       let e : Sum Cell = join so-far (multiple (t .coefficient) (reading (t .reach) (t .property) (i - t .shift) k)) in
-      elim (ltb i (t .shift)) as (λ b. evaluated cell (cond b so-far e) ≡ next (evaluated cell so-far) (λ a. cond b (Ok a) (next (next (evaluated cell (reading (t .reach) (t .property) (i - t .shift) k)) (λ x. ceiled (multiple-of-ends (t .coefficient) x))) (λ b. ceiled (sum-of-ends a b)))))
-      [ true ↦ elim (evaluated cell so-far) as (λ r. r ≡ next r (λ a. Ok a)) [ Ok v ↦ refl | Err f ↦ refl ]
-      | false ↦ refl ]
+      elim (ltb i (t .shift)) as (λ b. evaluated cell (cond b so-far e) ≡ next (evaluated cell so-far) (λ a. cond b (Ok a) (next (next (evaluated cell (reading (t .reach) (t .property) (i - t .shift) k)) (λ x. ceiled (multiple-of-ends (t .coefficient) x))) (λ b. ceiled (sum-of-ends a b))))) [
+        | true ↦ elim (evaluated cell so-far) as (λ r. r ≡ next r (λ a. Ok a)) [ Ok v ↦ refl | Err f ↦ refl ]
+        | false ↦ refl
+      ]
 
   -- the terms one after the other, from a sum
   abbrev pub plus-terms : Ends → List paper.Term → Result Ends FormFault

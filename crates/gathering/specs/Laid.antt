@@ -54,4 +54,4 @@ abbrev pub plus-term : (Cell → Ends) → ℕ → ℕ → Ends → paper.Term �
 plus-term cell i k a t =
     cond (ltb i (t .shift)) (Ok a)
     (next (next (evaluated cell (reading (t .reach) (t .property) (i - t .shift) k)) (λ x. ceiled (multiple-of-ends (t .coefficient) x)))
-      (λ b. ceiled (sum-of-ends a b)))
+    (λ b. ceiled (sum-of-ends a b)))

@@ -34,7 +34,7 @@ pub fn row_start(sizes: &Sizes, m: usize, i: usize) -> usize
     (m * sizes.rows + i) * sizes.columns
 }
 
-pub fn cell<F: SummingForm>(cells: &[F], sizes: &Sizes, m: usize, i: usize, k: usize) -> F
+fn cell<F: SummingForm>(cells: &[F], sizes: &Sizes, m: usize, i: usize, k: usize) -> F
     requires laid { ⌜ Laid (now sizes) (length (now cells)) ⌝ }
     requires within { ⌜ (m < now sizes .properties) × (i < now sizes .rows) × (k < now sizes .columns) ⌝ }
     ensures { λ r. ⌜ F·SummingForm .ends r ≡ on-sheet (now (sizes .entry)) (map (F·SummingForm .ends) (now (cells .entry))) (cell-at m i k) ⌝ }
@@ -43,7 +43,13 @@ pub fn cell<F: SummingForm>(cells: &[F], sizes: &Sizes, m: usize, i: usize, k: u
 }
 
 // The running sum of columns 0 to k of a row.
-pub fn running<F: SummingForm>(cells: &[F], sizes: &Sizes, m: usize, i: usize, k: usize) -> Result<F, FormFault>
+fn running<F: SummingForm>(
+    cells: &[F],
+    sizes: &Sizes,
+    m: usize,
+    i: usize,
+    k: usize,
+) -> Result<F, FormFault>
     requires laid { ⌜ Laid (now sizes) (length (now cells)) ⌝ }
     requires within { ⌜ (m < now sizes .properties) × (i < now sizes .rows) × (k < now sizes .columns) ⌝ }
     ensures { λ r. ⌜ told (F·SummingForm .ends) r ≡ evaluated (on-sheet (now (sizes .entry)) (map (F·SummingForm .ends) (now (cells .entry)))) (total-of m i 0 (k + 1)) ⌝ }
@@ -53,7 +59,14 @@ pub fn running<F: SummingForm>(cells: &[F], sizes: &Sizes, m: usize, i: usize, k
 }
 
 // The sum so far, with what one term adds. A term that goes back before the first row adds nothing.
-pub fn add_term<F: SummingForm>(cells: &[F], sizes: &Sizes, term: &Term, row: usize, column: usize, sum: F) -> Result<F, FormFault>
+fn add_term<F: SummingForm>(
+    cells: &[F],
+    sizes: &Sizes,
+    term: &Term,
+    row: usize,
+    column: usize,
+    sum: F,
+) -> Result<F, FormFault>
     requires laid { ⌜ Laid (now sizes) (length (now cells)) ⌝ }
     requires fits { ⌜ TermFits (now sizes .properties) (now term) ⌝ }
     requires within { ⌜ (row < now sizes .rows) × (column < now sizes .columns) ⌝ }
@@ -70,7 +83,13 @@ pub fn add_term<F: SummingForm>(cells: &[F], sizes: &Sizes, term: &Term, row: us
 }
 
 // The exposure of a rule at a row and a column: the terms in order, from zero.
-pub fn exposure<F: SummingForm>(cells: &[F], sizes: &Sizes, rule: &Rule, row: usize, column: usize) -> Result<F, FormFault>
+pub fn exposure<F: SummingForm>(
+    cells: &[F],
+    sizes: &Sizes,
+    rule: &Rule,
+    row: usize,
+    column: usize,
+) -> Result<F, FormFault>
     requires laid { ⌜ Laid (now sizes) (length (now cells)) ⌝ }
     requires fits { ⌜ Fits (now sizes .properties) (now rule) ⌝ }
     requires within { ⌜ (row < now sizes .rows) × (column < now sizes .columns) ⌝ }

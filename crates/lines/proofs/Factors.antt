@@ -84,8 +84,8 @@ module _ (R : Reading) (lawful : Lawful (R .form)) (m k : ℕ) where
   steps-past [] n a p l = absurd (let z : _≡_ {A = ℕ} 0 1 = cc in omega arith)
   steps-past (s ∷ ss) n a p l =
       ⊎-elim (λ (t : factor-inside (s .ends F) ≡ true). inr (steps-past ss n (a .1) (sym (ap (λ b. cond b (first-past F ss) (Some (s .above))) t) ∙ p) l))
-             (λ (t : factor-inside (s .ends F) ≡ false). inl (step-past l s (a .0) t))
-             (cases-bool (factor-inside (s .ends F)))
+      (λ (t : factor-inside (s .ends F) ≡ false). inl (step-past l s (a .0) t))
+      (cases-bool (factor-inside (s .ends F)))
 
   caused : (c : Cause) (before : List Step) (n : ℕ) (b : Book) → Right-cause b m k before c → Ceiling-excused (cause-fault m k n c) (cause-steps m k c)
   caused no-property before n b r (inl e) = absurd (omega arith)

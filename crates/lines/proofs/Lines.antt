@@ -29,9 +29,10 @@ pub line-more : (R : Reading) (s now next : Paper) (calls : List Call) (i : ℕ)
     next ≡ paper-next now (getD calls i d) (accepted o) → Stands R now (getD calls i d) o → more ≡ os ++ o ∷ [] →
     (next ≡ paper-after s (take (i + 1) calls) more) × Line-stands R s (take (i + 1) calls) more
 line-more R s now next calls i d os more o lt at all moves stands pushed =
-    rw (take-more calls i d lt, pushed)
-    (moves ∙ (ap (λ (t : Paper). paper-next t (getD calls i d) (accepted o)) at ∙ sym (after-push R s (take i calls) os (getD calls i d) o all)),
-     stand-push R s (take i calls) os (getD calls i d) o all (let P : Paper → Type 0 = λ t. Stands R t (getD calls i d) o in subst P at stands))
+    rw (take-more calls i d lt, pushed) (
+      moves ∙ (ap (λ (t : Paper). paper-next t (getD calls i d) (accepted o)) at ∙ sym (after-push R s (take i calls) os (getD calls i d) o all)),
+      stand-push R s (take i calls) os (getD calls i d) o all (let P : Paper → Type 0 = λ t. Stands R t (getD calls i d) o in subst P at stands),
+    )
 
 -- what is past the outcome just written is as it was
 pub rest-more : (before after : List Outcome) (i : ℕ) (o : Outcome) → drop i after ≡ drop i before → drop (i + 1) (set after i o) ≡ drop (i + 1) before

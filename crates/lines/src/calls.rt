@@ -6,10 +6,21 @@ use engine::states::Draft;
 
 #[derive(Clone, Copy)]
 pub enum Call {
-    Enter { property: usize, row: usize, column: usize, amount: i64 },
-    AddTerm { property: usize, term: Term },
+    Enter {
+        property: usize,
+        row: usize,
+        column: usize,
+        amount: i64,
+    },
+    AddTerm {
+        property: usize,
+        term: Term,
+    },
     Close,
-    AskFactor { property: usize, column: usize },
+    AskFactor {
+        property: usize,
+        column: usize,
+    },
     Reopen,
 }
 

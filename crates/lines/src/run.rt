@@ -4,12 +4,12 @@ ghost use Rattle.std.specs.Results.{Cases};
 ghost use Rattle.std.specs.declared.option.Option.the-variants.{Some, None};
 ghost use Rattle.book.specs.Keying.{sizes-fault};
 ghost use Rattle.lines.specs.Line.{Reading, reading, Paper, paper-of, paper-next, accepted, Stands, Ran};
-use book::faults::Fault;
-use book::kinds::Sizes;
 use crate::calls::AnyBook;
 use crate::calls::Call;
 use crate::calls::Outcome;
 use crate::calls::State;
+use book::faults::Fault;
+use book::kinds::Sizes;
 use engine::states::Closed;
 use engine::states::Draft;
 use forms::ProjectingForm;
@@ -22,7 +22,12 @@ fn draft_step(draft: Draft, call: Call) -> (AnyBook, Outcome)
 {
     let mut draft = draft;
     match call {
-        Call::Enter { property, row, column, amount } => match draft.enter(property, row, column, amount) {
+        Call::Enter {
+            property,
+            row,
+            column,
+            amount,
+        } => match draft.enter(property, row, column, amount) {
             Ok(()) => (AnyBook::InDraft(draft), Outcome::Accepted),
             Err(fault) => (AnyBook::InDraft(draft), Outcome::Refused(fault)),
         },
@@ -36,12 +41,20 @@ fn draft_step(draft: Draft, call: Call) -> (AnyBook, Outcome)
 }
 
 // One call on a closed book.
-fn closed_step<F: ProjectingForm, S: FactorSource>(source: &S, closed: Closed, call: Call) -> (AnyBook, Outcome)
+fn closed_step<F: ProjectingForm, S: FactorSource>(
+    source: &S,
+    closed: Closed,
+    call: Call,
+) -> (AnyBook, Outcome)
     ensures next { λ r. ⌜ paper-of (r .0) ≡ paper-next (paper-of (AnyBook.InClosed closed)) call (accepted (r .1)) ⌝ }
     ensures stands { λ r. ⌜ Stands (reading (S·FactorSource .means (now (source .entry))) (S·FactorSource .depth (now (source .entry))) (F·ProjectingForm .form)) (paper-of (AnyBook.InClosed closed)) call (r .1) ⌝ }
 {
     match call {
-        Call::AskFactor { property, column } => match closed.factor::<F, S>(source, property, column) {
+        Call::AskFactor { property, column } => match closed.factor::<F, S>(
+            source,
+            property,
+            column,
+        ) {
             Ok((low, high)) => (AnyBook::InClosed(closed), Outcome::Between(low, high)),
             Err(fault) => (AnyBook::InClosed(closed), Outcome::Refused(fault)),
         },
@@ -51,7 +64,11 @@ fn closed_step<F: ProjectingForm, S: FactorSource>(source: &S, closed: Closed, c
 }
 
 // One call: what the state takes is done, and what it does not take changes nothing.
-fn step<F: ProjectingForm, S: FactorSource>(source: &S, book: AnyBook, call: Call) -> (AnyBook, Outcome)
+fn step<F: ProjectingForm, S: FactorSource>(
+    source: &S,
+    book: AnyBook,
+    call: Call,
+) -> (AnyBook, Outcome)
     ensures next { λ r. ⌜ paper-of (r .0) ≡ paper-next (paper-of book) call (accepted (r .1)) ⌝ }
     ensures stands { λ r. ⌜ Stands (reading (S·FactorSource .means (now (source .entry))) (S·FactorSource .depth (now (source .entry))) (F·ProjectingForm .form)) (paper-of book) call (r .1) ⌝ }
 {
@@ -62,11 +79,16 @@ fn step<F: ProjectingForm, S: FactorSource>(source: &S, book: AnyBook, call: Cal
 }
 
 // Opens a book and makes the calls in order, as many as there is room for their outcomes; answers how many that were.
-pub fn run<F: ProjectingForm, S: FactorSource>(source: &S, sizes: Sizes, calls: &[Call], outcomes: &mut [Outcome]) -> Result<usize, Fault>
+pub fn run<F: ProjectingForm, S: FactorSource>(
+    source: &S,
+    sizes: Sizes,
+    calls: &[Call],
+    outcomes: &mut [Outcome],
+) -> Result<usize, Fault>
     ensures { λ r. ⌜ Cases r
         (λ n. (sizes-fault sizes ≡ None)
-            × Ran (reading (S·FactorSource .means (now (source .entry))) (S·FactorSource .depth (now (source .entry))) (F·ProjectingForm .form))
-                sizes (now (calls .entry)) (now (outcomes .entry)) (now (outcomes .exit)) n)
+        × Ran (reading (S·FactorSource .means (now (source .entry))) (S·FactorSource .depth (now (source .entry))) (F·ProjectingForm .form))
+        sizes (now (calls .entry)) (now (outcomes .entry)) (now (outcomes .exit)) n)
         (λ e. (sizes-fault sizes ≡ Some e) × (now (outcomes .exit) ≡ now (outcomes .entry))) ⌝ }
 {
     let draft = Draft::open(sizes)?;

@@ -91,11 +91,11 @@ module _ (b : Book) (m k : ℕ) (asked : Asked-within b m k) where
 pub within-sound : (d : ℕ) (b : Book) (m k : ℕ) (M : Meaning) → (Asked-within b m k → Sound d b m k M) → Sound d b m k (within b m k M)
 within-sound d b m k M h =
     ⊎-elim (λ (p : m < b .properties). let e : ltb m (b .properties) ≡ true = grind arith in rw e
-             (⊎-elim (λ (q : k + 1 < b .columns). let f : ltb (k + 1) (b .columns) ≡ true = grind arith in rw f (h (p, q)))
-                     (λ (q : b .columns ≤ k + 1). let f : ltb (k + 1) (b .columns) ≡ false = grind arith in rw f (record { grounds = (p, q, refl); steps = λ F lawful. tt }))
-                     (cases-lt (k + 1) (b .columns))))
-           (λ (p : b .properties ≤ m). let e : ltb m (b .properties) ≡ false = grind arith in rw e (record { grounds = (p, refl); steps = λ F lawful. tt }))
-           (cases-lt m (b .properties))
+    (⊎-elim (λ (q : k + 1 < b .columns). let f : ltb (k + 1) (b .columns) ≡ true = grind arith in rw f (h (p, q)))
+    (λ (q : b .columns ≤ k + 1). let f : ltb (k + 1) (b .columns) ≡ false = grind arith in rw f (record { grounds = (p, q, refl); steps = λ F lawful. tt }))
+    (cases-lt (k + 1) (b .columns))))
+    (λ (p : b .properties ≤ m). let e : ltb m (b .properties) ≡ false = grind arith in rw e (record { grounds = (p, refl); steps = λ F lawful. tt }))
+    (cases-lt m (b .properties))
 
 pub estimated-sound : (b : Book) (m k : ℕ) → Sound 1 b m k (estimated b m k)
 estimated-sound b m k = within-sound 1 b m k _ (λ asked. rows-sound b m k asked (next-amounts-through b m k (seen b k)) (exposures-through b m k (seen b k)))

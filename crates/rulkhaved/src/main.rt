@@ -1,12 +1,15 @@
 // Reads calls from standard input, one a line, and prints what each came to.
 mod parsing;
-mod wording;
 mod session;
+#[cfg(test)]
+mod tests;
+mod wording;
 
 use std::error::AnyError;
 use std::io::Read;
 
-const USAGE: &str = "rulkhaved reads calls from standard input, one a line, and prints what each came to:
+const USAGE: &str =
+    "rulkhaved reads calls from standard input, one a line, and prints what each came to:
   open P N C                           a new book of P properties, N rows and C columns
   enter M I K AMOUNT                   an observed amount, in hundredths
   term M L SHIFT REACH COEFFICIENT     a term, last in the rule of property M

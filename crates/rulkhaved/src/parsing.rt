@@ -5,7 +5,7 @@ use lines::calls::Call;
 use std::str::SplitWhitespace;
 
 #[derive(Clone, Copy)]
-pub enum Line {
+pub(crate) enum Line {
     Skipped,
     Open(Sizes),
     Made(Call),
@@ -30,7 +30,11 @@ fn sizes(words: &mut SplitWhitespace<'_>) -> Option<Line> {
     let properties = count(words)?;
     let rows = count(words)?;
     let columns = count(words)?;
-    Some(Line::Open(Sizes { properties, rows, columns }))
+    Some(Line::Open(Sizes {
+        properties,
+        rows,
+        columns,
+    }))
 }
 
 fn entry(words: &mut SplitWhitespace<'_>) -> Option<Line> {
@@ -38,7 +42,12 @@ fn entry(words: &mut SplitWhitespace<'_>) -> Option<Line> {
     let row = count(words)?;
     let column = count(words)?;
     let amount = amount(words)?;
-    Some(Line::Made(Call::Enter { property, row, column, amount }))
+    Some(Line::Made(Call::Enter {
+        property,
+        row,
+        column,
+        amount,
+    }))
 }
 
 fn term(words: &mut SplitWhitespace<'_>) -> Option<Line> {
@@ -47,7 +56,15 @@ fn term(words: &mut SplitWhitespace<'_>) -> Option<Line> {
     let shift = count(words)?;
     let reach = reach(words)?;
     let coefficient = amount(words)?;
-    Some(Line::Made(Call::AddTerm { property, term: Term { property: read, shift, reach, coefficient } }))
+    Some(Line::Made(Call::AddTerm {
+        property,
+        term: Term {
+            property: read,
+            shift,
+            reach,
+            coefficient,
+        },
+    }))
 }
 
 fn question(words: &mut SplitWhitespace<'_>) -> Option<Line> {
@@ -69,7 +86,7 @@ fn call(name: &str, words: &mut SplitWhitespace<'_>) -> Option<Line> {
 }
 
 // A call is understood if every word of it is, and no word is left over.
-pub fn read(text: &str) -> Line {
+pub(crate) fn read(text: &str) -> Line {
     let mut words = text.split_whitespace();
     let Some(name) = words.next() else {
         return Line::Skipped;

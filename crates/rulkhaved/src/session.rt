@@ -1,21 +1,21 @@
 // A whole input: each `open` begins a line of calls, which is run as one.
-use book::faults::Fault;
-use book::kinds::Sizes;
 use crate::parsing;
 use crate::parsing::Line;
 use crate::wording;
+use book::faults::Fault;
+use book::kinds::Sizes;
 use forms::two_ends::TwoEnds;
+use forms::two_ends::TwoEndsProjects;
 use lines::calls::Call;
 use lines::calls::Outcome;
 use lines::calls::State;
 use lines::run::run;
 use sources::estimated::Estimated;
+use sources::estimated::EstimatedSource;
 use std::alloc::AllocError;
 use std::alloc::Global;
 use std::error::AnyError;
 use std::fmt::Write;
-use forms::two_ends::TwoEndsProjects;
-use sources::estimated::EstimatedSource;
 
 // A line of the input, as it stands there and as it was read.
 #[derive(Clone, Copy)]
@@ -30,7 +30,11 @@ fn items<'a>(heap: Global, text: &'a str) -> Result<Vec<Item<'a>>, AllocError> {
     let mut number: usize = 0;
     for text in text.lines() {
         number = number.saturating_add(1);
-        items.push(Item { number, text, line: parsing::read(text) })?;
+        items.push(Item {
+            number,
+            text,
+            line: parsing::read(text),
+        })?;
     }
     Ok(items)
 }
@@ -49,7 +53,11 @@ fn calls_of(heap: Global, items: &[Item<'_>]) -> Result<Vec<Call>, AllocError> {
 }
 
 // The outcomes of a line of calls, or why its book was not opened.
-fn outcomes_of(heap: Global, sizes: Sizes, calls: &[Call]) -> Result<Result<Vec<Outcome>, Fault>, AllocError> {
+fn outcomes_of(
+    heap: Global,
+    sizes: Sizes,
+    calls: &[Call],
+) -> Result<Result<Vec<Outcome>, Fault>, AllocError> {
     let mut outcomes = vec![in heap; Outcome::NotTaken(State::Drafted); calls.len()]?;
     match run::<TwoEnds, Estimated>(&Estimated, sizes, calls, &mut outcomes) {
         Ok(_) => Ok(Ok(outcomes)),
@@ -122,13 +130,23 @@ impl Session {
 }
 
 // What is printed for an input, and whether every line of it was understood.
-pub fn answers(heap: Global, text: &str) -> Result<(String, bool), AnyError> {
+pub(crate) fn answers(heap: Global, text: &str) -> Result<(String, bool), AnyError> {
     let items = items(heap, text)?;
-    let mut session = Session { heap, out: String::new(heap), outcomes: Vec::new(heap), printed: 0, understood: true };
+    let mut session = Session {
+        heap,
+        out: String::new(heap),
+        outcomes: Vec::new(heap),
+        printed: 0,
+        understood: true,
+    };
     let items = items.as_slice();
     for i in 0..items.len() {
         session.answer(&items[i], &items[i + 1..])?;
     }
-    let Session { out, understood, .. } = session;
+    let Session {
+        out,
+        understood,
+        ..
+    } = session;
     Ok((out, understood))
 }

@@ -6,7 +6,7 @@ use lines::calls::State;
 use std::fmt;
 
 // The words of a line, with single blanks between them.
-pub fn echo<W: fmt::Write>(out: &mut W, text: &str) -> fmt::Result {
+pub(crate) fn echo<W: fmt::Write>(out: &mut W, text: &str) -> fmt::Result {
     let mut first = true;
     for word in text.split_whitespace() {
         if !first {
@@ -32,25 +32,34 @@ fn reason<W: fmt::Write>(out: &mut W, fault: &Fault) -> fmt::Result {
         Ground::NoReach => out.write_str("a reach is 0, 1 or 2"),
         Ground::CoefficientOutside => out.write_str("a coefficient is -100 to 100 and not 0"),
         Ground::RuleFull => out.write_str("the rule has six terms already"),
-        Ground::NegativeExposure => write!(out, "the exposure of row {row} in column {column} is negative"),
-        Ground::AmountCeiling => write!(out, "an amount in row {row} and column {column} passes the ceiling, 40000000000"),
+        Ground::NegativeExposure => write!(
+            out,
+            "the exposure of row {row} in column {column} is negative"
+        ),
+        Ground::AmountCeiling => write!(
+            out,
+            "an amount in row {row} and column {column} passes the ceiling, 40000000000"
+        ),
         Ground::FactorCeiling => out.write_str("the factor passes the ceiling, 200000000"),
     }
 }
 
 // The number of the ground, its origin, the place and the layers, and then the reason in words.
-pub fn refusal<W: fmt::Write>(out: &mut W, fault: &Fault) -> fmt::Result {
+pub(crate) fn refusal<W: fmt::Write>(out: &mut W, fault: &Fault) -> fmt::Result {
     let number = fault.ground.number();
     let origin = fault.origin.number();
     let property = fault.place.property;
     let row = fault.place.row;
     let column = fault.place.column;
     let layers = fault.layers;
-    write!(out, "refused {number} {origin} {property} {row} {column} {layers}: ")?;
+    write!(
+        out,
+        "refused {number} {origin} {property} {row} {column} {layers}: "
+    )?;
     reason(out, fault)
 }
 
-pub fn outcome<W: fmt::Write>(out: &mut W, outcome: &Outcome) -> fmt::Result {
+pub(crate) fn outcome<W: fmt::Write>(out: &mut W, outcome: &Outcome) -> fmt::Result {
     match outcome {
         Outcome::NotTaken(State::Drafted) => out.write_str("not taken by a draft"),
         Outcome::NotTaken(State::Closed) => out.write_str("not taken by a closed book"),

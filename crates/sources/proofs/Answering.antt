@@ -86,6 +86,7 @@ small-amount x n h l = record { low = omega (arith, ints); order = omega (arith,
 pub totals-known : (b : stored.Book) (m k n : ℕ) (o : Option Cause) (t : Totals) → n ≤ 16 → Ok t ≡ unless-cause m k o (totals-through (book-of b) m k n) →
     Amount (point (t .amounts)) × (pos 0 ≤ℤ t .exposures)
 totals-known b m k n o t few e =
-    let s = sym (ok-is m k o (totals-through (book-of b) m k n) t e .1) in
-    (subst (λ (u : Totals). Amount (point (u .amounts))) s (small-amount (next-amounts-through (book-of b) m k n) n (amounts-small b m k n) few),
-     subst (λ (u : Totals). pos 0 ≤ℤ u .exposures) s (exposures-positive (book-of b) m k n))
+    let s = sym (ok-is m k o (totals-through (book-of b) m k n) t e .1) in (
+      subst (λ (u : Totals). Amount (point (u .amounts))) s (small-amount (next-amounts-through (book-of b) m k n) n (amounts-small b m k n) few),
+      subst (λ (u : Totals). pos 0 ≤ℤ u .exposures) s (exposures-positive (book-of b) m k n),
+    )

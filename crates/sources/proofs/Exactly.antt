@@ -51,8 +51,8 @@ past-not-inside v h = grind (arith, ints)
 pub step-capped : (v : ℤ) → ceiled (point v) ≡ capped (or-else (cond (past v) (Some v) None) None) v
 step-capped v =
     ⊎-elim (λ (t : past v ≡ true). ap (λ b. cond b (Ok (point v)) (Err AmountCeiling)) (past-not-inside v t) ∙ sym (ap (λ b. capped (or-else (cond b (Some v) None) None) v) t))
-           (λ (t : past v ≡ false). ap (λ b. cond b (Ok (point v)) (Err AmountCeiling)) (inside-not-past v t) ∙ sym (ap (λ b. capped (or-else (cond b (Some v) None) None) v) t))
-           (cases-bool (past v))
+    (λ (t : past v ≡ false). ap (λ b. cond b (Ok (point v)) (Err AmountCeiling)) (inside-not-past v t) ∙ sym (ap (λ b. capped (or-else (cond b (Some v) None) None) v) t))
+    (cases-bool (past v))
 
 multiple-point : (c a : ℤ) → multiple-of-ends c (point a) ≡ point (c *ℤ a)
 multiple-point (pos n) a = refl
@@ -90,8 +90,8 @@ module _ (amount : Cell → ℤ) where
       ∙ ap (λ r. next (capped (stopped x) (exact-of amount x)) (λ a. next r (λ b. ceiled (sum-of-ends a b)))) (evaluated-exact y)
       ∙ join-capped (stopped x) (stopped y) (exact-of amount x) (exact-of amount y)
       ∙ ap (λ o. capped o (exact-of amount (join x y)))
-        (sym (first-append (step-past amount) (steps-of x) (steps-of y ++ (join x y ∷ []))
-              ∙ ap (or-else (stopped x)) (first-append (step-past amount) (steps-of y) (join x y ∷ []))))
+      (sym (first-append (step-past amount) (steps-of x) (steps-of y ++ (join x y ∷ []))
+      ∙ ap (or-else (stopped x)) (first-append (step-past amount) (steps-of y) (join x y ∷ []))))
   evaluated-exact (multiple c x) =
       ap (λ r. next r (λ a. ceiled (multiple-of-ends c a))) (evaluated-exact x)
       ∙ multiple-capped c (stopped x) (exact-of amount x)
@@ -123,8 +123,8 @@ module _ (Q : Cell → Type 0) (i k : ℕ) where
   reads-term : (so-far : Sum Cell) (t : paper.Term) → All-read Q so-far → Fair t → All-read Q (with-term i k so-far t)
   reads-term so-far t r f =
       ⊎-elim (λ (l : i < t .shift). let e : ltb i (t .shift) ≡ true = grind arith in rw e r)
-             (λ (l : t .shift ≤ i). let e : ltb i (t .shift) ≡ false = grind arith in rw e (r, reads-reading (t .reach) (t .property) (i - t .shift) (f l)))
-             (cases-lt i (t .shift))
+      (λ (l : t .shift ≤ i). let e : ltb i (t .shift) ≡ false = grind arith in rw e (r, reads-reading (t .reach) (t .property) (i - t .shift) (f l)))
+      (cases-lt i (t .shift))
 
   pub reads-terms : (so-far : Sum Cell) (ts : List paper.Term) → All-read Q so-far → Each Fair ts → All-read Q (with-terms i k so-far ts)
   reads-terms so-far [] r e = r

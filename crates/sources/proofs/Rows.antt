@@ -11,7 +11,7 @@ use lib.IntN.{ℤ, pos, negsuc, _+ℤ_, natAbs}
 use lib.Signed.{_≤ℤ_, _<ℤ_, ltZ}
 use mir.Syntax.{w64}
 use mir.Val.{toZ, ofZ, SFits}
-use Rattle.std.proofs.shelf.Signed.{ints, by-ltZ}
+use Rattle.std.proofs.shelf.Signed.{ints, toZ-ofZ}
 use Rattle.std.proofs.shelf.Tests.{cases-bool}
 use Rattle.std.specs.declared.option.Option.{Option}
 use Rattle.std.specs.declared.option.Option.the-variants.{Some, None}
@@ -112,21 +112,14 @@ module _ (b : paper.Book) (m k i : ℕ) where
   exposures-more h =
       ap (exposures-through b m k) (add-one i)
       ∙ ⊎-elim (λ (t : ltZ (pos 0) own ≡ true). ap (λ x. cond x (before +ℤ own) before) t)
-               (λ (t : ltZ (pos 0) own ≡ false). ap (λ x. cond x (before +ℤ own) before) t ∙ zero-more before own h t)
-               (cases-bool (ltZ (pos 0) own))
+      (λ (t : ltZ (pos 0) own ≡ false). ap (λ x. cond x (before +ℤ own) before) t ∙ zero-more before own h t)
+      (cases-bool (ltZ (pos 0) own))
     where
       zero-more : (a r : ℤ) → ltZ r (pos 0) ≡ false → ltZ (pos 0) r ≡ false → a ≡ a +ℤ r
       zero-more a r p q = let z : r ≡ pos 0 = grind (arith, ints) in rw z (plus-zero a)
         where
           plus-zero : (a : ℤ) → a ≡ a +ℤ pos 0
           plus-zero a = omega (arith, ints)
-
-  -- the next amounts with that of row i, which counts where its exposure is above 0
-  amounts-same : ltZ (pos 0) own ≡ false → next-amounts-through b m k (i + 1) ≡ next-amounts-through b m k i
-  amounts-same t = ap (next-amounts-through b m k) (add-one i) ∙ ap (λ x. cond x (next-amounts-through b m k i +ℤ next-amount b m k i) (next-amounts-through b m k i)) t
-
-  amounts-more : ltZ (pos 0) own ≡ true → next-amounts-through b m k (i + 1) ≡ next-amounts-through b m k i +ℤ next-amount b m k i
-  amounts-more t = ap (next-amounts-through b m k) (add-one i) ∙ ap (λ x. cond x (next-amounts-through b m k i +ℤ next-amount b m k i) (next-amounts-through b m k i)) t
 
   -- the exposure is not gathered
   pub row-refused : (f : Fault) → Err f ≡ unless-cause m k (amount-cause i (gathering-past b m i k)) own →
@@ -191,11 +184,20 @@ module _ (b : paper.Book) (m k i : ℕ) where
             ∙ ap (λ (y : ℤ). Ok (record { amounts = next-amounts-through b m k (i + 1); exposures = y })) s
             ∙ sym (ap (λ o. unless-cause m k o (totals-through b m k (i + 1))) n)
 
-    pub amounts-kept : ltZ v (pos 0) ≡ false → v ≡ pos 0 → (a : ℤ) → a ≡ next-amounts-through b m k i → a ≡ next-amounts-through b m k (i + 1)
-    amounts-kept t z a e = e ∙ sym (amounts-same (ap (λ x. ltZ (pos 0) x) (sym same ∙ z)))
-
-    pub amounts-added : ltZ (pos 0) v ≡ true → (a n : ℤ) → a ≡ next-amounts-through b m k i → n ≡ next-amount b m k i → a +ℤ n ≡ next-amounts-through b m k (i + 1)
-    amounts-added t a n e f = ap (λ z. z +ℤ n) e ∙ ap (λ z. next-amounts-through b m k i +ℤ z) f ∙ sym (amounts-more (ap (λ z. ltZ (pos 0) z) (sym same) ∙ t))
+    -- the next amount counts where the exposure is above 0
+    pub amounts-next : (a n x : ℤ) → a ≡ next-amounts-through b m k i → n ≡ next-amount b m k i → x ≡ cond (ltZ (pos 0) v) n (pos 0) →
+        a +ℤ x ≡ next-amounts-through b m k (i + 1)
+    amounts-next a n x e f g =
+        ap (λ z. a +ℤ z) g
+        ∙ ap (λ z. a +ℤ cond (ltZ (pos 0) z) n (pos 0)) same
+        ∙ ap (λ z. z +ℤ cond (ltZ (pos 0) own) n (pos 0)) e
+        ∙ ap (λ z. next-amounts-through b m k i +ℤ cond (ltZ (pos 0) own) z (pos 0)) f
+        ∙ inside-cond (ltZ (pos 0) own) (next-amounts-through b m k i) (next-amount b m k i)
+        ∙ ap (next-amounts-through b m k) (sym (add-one i))
+      where
+        inside-cond : (t : Bool) (p q : ℤ) → p +ℤ cond t q (pos 0) ≡ cond t (p +ℤ q) p
+        inside-cond true p q = refl
+        inside-cond false p q = omega (arith, ints)
 
 -- ---- bounds
 amount-small : (b : Book) (c : Cell) → natAbs (book-of b .amount c) ≤ 1000000000
@@ -229,11 +231,6 @@ amount-back x a = let l = a .low in let h = a .high in omega (arith, ints)
 
 pub zero-back : (x : ℤ) → Amount (point x) → ofZ w64 x ≡ 0 → x ≡ pos 0
 zero-back x a e = let l = a .low in let h = a .high in omega (arith, ints)
-
-pub above-back : (x : ℤ) → Amount (point x) → ltZ x (pos 0) ≡ false → (ofZ w64 x ≡ 0 → ⊥) → ltZ (pos 0) x ≡ true
-above-back (pos zero) a t n = absurd (n refl)
-above-back (pos (suc x)) a t n = grind (arith, ints)
-above-back (negsuc x) a t n = absurd (let z : _≡_ {A = ℕ} 0 1 = ap (λ b. cond b 1 0) (sym t) in omega arith)
 
 pub small-back : (x : ℤ) (n : ℕ) → natAbs x ≤ 1000000000 * n → n < 16 → toZ w64 (ofZ w64 x) ≡ x
 small-back x n h l = omega (arith, ints)
@@ -270,3 +267,29 @@ module _ (b : paper.Book) (m k i n : ℕ) (all : Option Cause) (left : first-of 
 
   pub rows-done : n ≤ i → all ≡ None
   rows-done h = sym left ∙ ap (first-of (row-cause b m k)) (rising-done i n h)
+
+-- a counted amount is no larger
+pub counted-small : (t : Bool) (x : ℤ) → negsuc 999999999 ≤ℤ x → x ≤ℤ pos 1000000000 → (negsuc 999999999 ≤ℤ cond t x (pos 0)) × (cond t x (pos 0) ≤ℤ pos 1000000000)
+counted-small true x l h = (l, h)
+counted-small false x l h = (omega (arith, ints), omega (arith, ints))
+
+-- the sum of next amounts with one more, as the code adds it
+module _ (b : Book) (m k i : ℕ) (few : i < 16) (a n x : ℤ) (t : Bool) (a-is : a ≡ next-amounts-through (book-of b) m k i)
+    (low : negsuc 999999999 ≤ℤ n) (high : n ≤ℤ pos 1000000000) (x-is : x ≡ cond t (toZ w64 (ofZ w64 n)) (pos 0)) where
+  a-small : natAbs a ≤ 1000000000 * i
+  a-small = subst (λ (z : ℤ). natAbs z ≤ 1000000000 * i) (sym a-is) (amounts-small b m k i)
+
+  pub x-counted : x ≡ cond t n (pos 0)
+  x-counted = x-is ∙ ap (λ z. cond t z (pos 0)) (entry-back n low high)
+
+  x-low : negsuc 999999999 ≤ℤ x
+  x-low = subst (λ (z : ℤ). negsuc 999999999 ≤ℤ z) (sym x-counted) (counted-small t n low high .0)
+
+  x-high : x ≤ℤ pos 1000000000
+  x-high = subst (λ (z : ℤ). z ≤ℤ pos 1000000000) (sym x-counted) (counted-small t n low high .1)
+
+  pub next-fits : SFits w64 (toZ w64 (ofZ w64 a) +ℤ toZ w64 (ofZ w64 x))
+  next-fits = rw (small-back a i a-small few, entry-back x x-low x-high) (sum-fits a x i a-small few x-low x-high)
+
+  pub next-back : toZ w64 (ofZ w64 (toZ w64 (ofZ w64 a) +ℤ toZ w64 (ofZ w64 x))) ≡ a +ℤ x
+  next-back = rw (small-back a i a-small few, entry-back x x-low x-high) (toZ-ofZ w64 (a +ℤ x) (sum-fits a x i a-small few x-low x-high))

@@ -7,21 +7,21 @@ ghost use Rattle.paper.specs.Sources.{estimated, row-cause, rows-cause, seen};
 ghost use Rattle.paper.specs.Laws.{Asked-within};
 ghost use Rattle.book.specs.Stored.{book-of};
 ghost use Rattle.sources.specs.Estimates.{totals-through, unless-cause};
+use crate::exact::counted;
+use crate::exact::following;
+use crate::exact::gathered;
+use crate::exact::not_negative;
+use crate::source::FactorSource;
+use crate::source::asked_within;
 use book::faults::Fault;
 use book::faults::FormResultPlacing;
-use book::faults::Ground;
-use book::faults::Origin;
 use book::faults::Place;
 use book::faults::Placing;
 use book::kinds::Book;
-use crate::exact::following;
-use crate::exact::gathered;
-use crate::source::asked_within;
-use crate::source::FactorSource;
 use forms::ProjectingForm;
 use forms::SummingForm;
-use forms::whole::read;
 use forms::whole::WholeSums;
+use forms::whole::read;
 
 #[derive(Clone, Copy)]
 pub struct Estimated;
@@ -42,18 +42,20 @@ fn with_row(book: &Book, m: usize, k: usize, i: usize, so_far: Totals) -> Result
     ensures value { λ r. ⌜ r ≡ unless-cause m k (row-cause (book-of (now (book .entry))) m k i) (totals-through (book-of (now (book .entry))) m k (i + 1)) ⌝ }
     ensures kept { λ r. ⌜ made r (λ t. Amount (point (t .exposures))) ⌝ }
 {
-    let place = Place { property: m, row: i, column: k };
+    let place = Place {
+        property: m,
+        row: i,
+        column: k,
+    };
     let own = gathered(book, m, i, k)?;
-    if own < 0 {
-        return Err(Fault { ground: Ground::NegativeExposure, origin: Origin::OfSource, place, layers: 0 });
-    }
+    not_negative(own, place)?;
     let sum = so_far.exposures.plus(&own).at(place)?;
     let exposures = read(&sum);
-    if own == 0 {
-        return Ok(Totals { amounts: so_far.amounts, exposures });
-    }
-    let next = following(book, m, i, k);
-    Ok(Totals { amounts: so_far.amounts + next, exposures })
+    let next = counted(own, following(book, m, i, k));
+    Ok(Totals {
+        amounts: so_far.amounts + next,
+        exposures,
+    })
 }
 
 // The totals of every row that has the next column observed.
@@ -62,7 +64,10 @@ fn all_rows(book: &Book, m: usize, k: usize) -> Result<Totals, Fault>
     ensures value { λ r. ⌜ r ≡ unless-cause m k (rows-cause (book-of (now (book .entry))) m k) (totals-through (book-of (now (book .entry))) m k (seen (book-of (now (book .entry))) k)) ⌝ }
     ensures kept { λ r. ⌜ made r (λ t. Amount (point (t .exposures))) ⌝ }
 {
-    let mut so_far = Totals { amounts: 0, exposures: 0 };
+    let mut so_far = Totals {
+        amounts: 0,
+        exposures: 0,
+    };
     for i in 0..book.sizes.rows - (k + 1) {
         so_far = with_row(book, m, k, i, so_far)?;
     }
@@ -74,10 +79,19 @@ pub impl FactorSource for Estimated as EstimatedSource {
 
     ghost means = { λ _ b m k. estimated b m k };
 
-    fn factor<F: ProjectingForm>(&self, book: &Book, m: usize, k: usize) -> Result<F::Factor, Fault> {
+    fn factor<F: ProjectingForm>(
+        &self,
+        book: &Book,
+        m: usize,
+        k: usize,
+    ) -> Result<F::Factor, Fault> {
         asked_within(book, m, k)?;
         let totals = all_rows(book, m, k)?;
-        let place = Place { property: m, row: 0, column: k };
+        let place = Place {
+            property: m,
+            row: 0,
+            column: k,
+        };
         if totals.exposures == 0 {
             return F::exact(0).at(place);
         }

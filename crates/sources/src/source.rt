@@ -40,12 +40,26 @@ pub fn asked_within(book: &Book, m: usize, k: usize) -> Result<(), Fault>
         (λ _. Asked-within (book-of (now (book .entry))) m k)
         (λ e. ((F : Form) (M : Meaning) → answer-in F m k (within (book-of (now (book .entry))) m k M) ≡ Err e)) ⌝ }
 {
-    let place = Place { property: m, row: 0, column: k };
+    let place = Place {
+        property: m,
+        row: 0,
+        column: k,
+    };
     if m >= book.sizes.properties {
-        return Err(Fault { ground: Ground::NoProperty, origin: Origin::OfSource, place, layers: 0 });
+        return Err(Fault {
+            ground: Ground::NoProperty,
+            origin: Origin::OfSource,
+            place,
+            layers: 0,
+        });
     }
     if k >= book.sizes.columns - 1 {
-        return Err(Fault { ground: Ground::NoColumn, origin: Origin::OfSource, place, layers: 0 });
+        return Err(Fault {
+            ground: Ground::NoColumn,
+            origin: Origin::OfSource,
+            place,
+            layers: 0,
+        });
     }
     Ok(())
 }

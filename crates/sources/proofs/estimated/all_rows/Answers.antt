@@ -14,7 +14,7 @@ returns-in-Break-so-far c =
     let p = err-from-errBy (c .from-residual .result) (c .from-residual .ensures .1) in
     record {
       value = rw (p .1, p .2)
-        (row-stops b (c .args .m) (c .args .k) (c .loop-i .i) (seen b (c .args .k)) (rows-cause b (c .args .m) (c .args .k)) (c .loop-i .inv .2) (c .loop-i-test .taken)
+          (row-stops b (c .args .m) (c .args .k) (c .loop-i .i) (seen b (c .args .k)) (rows-cause b (c .args .m) (c .args .k)) (c .loop-i .inv .2) (c .loop-i-test .taken)
           (c .in-Break-so-far .field-0 .0) (c .in-Break-so-far .ensures tt .value) (totals-through b (c .args .m) (c .args .k) (seen b (c .args .k))));
       kept = rw (p .1) tt;
     }
@@ -23,7 +23,7 @@ pub loop-i-again : need.loop-i-again
 loop-i-again c =
     let b = book-of (c .args .book .now) in
     let p = row-passed b (c .args .m) (c .args .k) (c .loop-i .i) (seen b (c .args .k)) (rows-cause b (c .args .m) (c .args .k)) (c .loop-i .inv .2) (c .loop-i-test .taken)
-        (c .in-Continue-so-far .so-far) (c .in-Continue-so-far .ensures tt .value) in
+    (c .in-Continue-so-far .so-far) (c .in-Continue-so-far .ensures tt .value) in
     (p .0, c .in-Continue-so-far .ensures tt .kept, p .1)
 
 pub returns : need.returns
@@ -34,6 +34,6 @@ returns c =
     let end : c .loop-i .i ≡ seen b k = omega arith in
     record {
       value = ap Ok (c .loop-i .inv .0 ∙ ap (totals-through b m k) end)
-        ∙ sym (ap (λ o. unless-cause m k o (totals-through b m k (seen b k))) (rows-done b m k (c .loop-i .i) (seen b k) (rows-cause b m k) (c .loop-i .inv .2) (c .loop-i-test .left)));
+          ∙ sym (ap (λ o. unless-cause m k o (totals-through b m k (seen b k))) (rows-done b m k (c .loop-i .i) (seen b k) (rows-cause b m k) (c .loop-i .inv .2) (c .loop-i-test .left)));
       kept = c .loop-i .inv .1;
     }

@@ -27,7 +27,7 @@ returns-in-Break-sum c =
     let p = err-from-errBy (c .from-residual .result) (c .from-residual .ensures .1) in
     record {
       value = rw (p .1, p .2)
-        (gathered-refused (c .args .m) (c .args .i) (c .args .k) (c .exposure .result) _ _ _
+          (gathered-refused (c .args .m) (c .args .i) (c .args .k) (c .exposure .result) _ _ _
           (c .exposure .ensures ∙ book-exact b (c .args .m) (c .args .i) (c .args .k) (c .pre .1) (c .pre .2) room)
           (sym (c .at .ensures) ∙ c .in-Break-sum .was tt));
       amount = rw (p .1) tt;

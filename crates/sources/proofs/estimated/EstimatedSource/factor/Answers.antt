@@ -42,7 +42,7 @@ returns-then-totals-eq0 g c =
     let z = zero-back (t .exposures) (c .in-Continue-totals .ensures tt .kept) (c .if-totals-eq0 .taken) in
     ap (told (g .F·ProjectingForm .fends)) (c .at .ensures)
     ∙ rows-answer (g .F·ProjectingForm .fends) F m k (rows-cause b m k) (totals-through b m k (seen b k)) t (c .in-Continue-totals .ensures tt .value) (c .exact .result)
-      (c .exact .ensures ∙ ap factor-ceiled (quotient-zero F (t .amounts) (t .exposures) z))
+    (c .exact .ensures ∙ ap factor-ceiled (quotient-zero F (t .amounts) (t .exposures) z))
     ∙ sym (ap (answer-in F m k) (within-open b m k (unless-caused (rows-cause b m k) (estimate b m k)) (c .in-Continue-asked-within .ensures tt)))
 
 pub ratio-requires : need.ratio-requires
@@ -75,5 +75,5 @@ returns g c =
     let r : told (g .F·ProjectingForm .fends) (c .ratio .result) ≡ factor-ceiled (F .ratio (t .amounts) (natAbs (t .exposures))) = cc in
     ap (told (g .F·ProjectingForm .fends)) (c .at-2 .ensures)
     ∙ rows-answer (g .F·ProjectingForm .fends) F m k (rows-cause b m k) (totals-through b m k (seen b k)) t (h .value) (c .ratio .result)
-      (r ∙ ap factor-ceiled (quotient-ratio F (t .amounts) (t .exposures) above))
+    (r ∙ ap factor-ceiled (quotient-ratio F (t .amounts) (t .exposures) above))
     ∙ sym (ap (answer-in F m k) (within-open b m k (unless-caused (rows-cause b m k) (estimate b m k)) (c .in-Continue-asked-within .ensures tt)))

@@ -1,0 +1,5 @@
+// Worked cases. The expected numbers were worked by hand, in fractions.
+#[cfg(test)]
+mod exposures;
+#[cfg(test)]
+mod factors;
