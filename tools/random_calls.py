@@ -8,9 +8,10 @@ Under an odd seed some lines are no calls, so the program ends with status 1;
 under an even seed every line is a call, a comment or blank.
 
 The books differ in size, in rules (chain ladder, extended, random, none), in
-the size and sign of their amounts, and some are made to meet a ceiling exactly
-or to pass it by one. Refused calls of every ground, calls that the book's state
-does not take, second drafts and questions out of range come between.
+the size and sign of their amounts and in their number form, and some are made
+to meet a ceiling exactly or to pass it by one. Refused calls of every ground,
+calls that the book's state does not take, second drafts, questions out of range
+and settings of the form in the middle of a book come between.
 """
 
 import random
@@ -48,13 +49,20 @@ class Maker:
         text = name
         for number in numbers:
             text += self.blanks() + self.spelled(number)
-        if self.chance(1):
-            text = "  " + text + "\t"
-        self.lines.append(text)
+        self.put(text)
         self.between()
+
+    def put(self, text):
+        self.lines.append("  " + text + "\t" if self.chance(1) else text)
+
+    def set_form(self):
+        """The setting of a form, which holds from the next book on."""
+        self.put("form" + self.blanks() + self.rng.choice(["ends", "centre"]))
 
     def between(self):
         """What may stand between any two calls."""
+        if self.chance(2):
+            self.set_form()
         if self.chance(1):
             self.lines.append(self.rng.choice(["", "   ", "\t", "# a comment", "  # close", "#close"]))
         if self.garbles and self.chance(2):
@@ -68,6 +76,8 @@ class Maker:
             "term 0 0 0 0", "term 0 0 0 0 1 1", "term 0 0 0 0 +", "term 0 0 0 0 -", "term 0 0 -1 0 1", "term a 0 0 0 1",
             "close 0", "close #", "factor", "factor 0", "factor 0 0 0", "factor 0 0x1", "factor  0\t1_0", "reopen now",
             "accepted", "100", "-", "closes", "fact or 0 0",
+            "form", "form end", "form Centre", "form ENDS", "form center", "form ends centre", "form centre 4", "form 0",
+            "Form ends", "forms ends", "form whole", "centre", "form centre #",
         ])
 
     # ---- the parts of a book
@@ -299,6 +309,8 @@ class Maker:
             self.call("factor", 0, 0)
 
     def next_book(self):
+        if self.chance(60):
+            self.set_form()
         kind = self.rng.randrange(20)
         if kind == 0:
             self.no_book()

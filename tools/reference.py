@@ -42,13 +42,31 @@ class Refused(Exception):
         return f"refused {self.number} {self.origin} {m} {i} {k} {layers}: {self.words}"
 
 
-class Book:
-    """Sizes, observed amounts and rules."""
+# ---- the number forms: the ends of a factor of an exact value in ten-millionths
 
-    def __init__(self, properties, rows, columns):
+
+def two_ends(exact):
+    return floor(exact), ceil(exact)
+
+
+def centre_ends(exact):
+    """The value is rounded down to the centre; the radius is 1 unless it was a whole number."""
+    centre = floor(exact)
+    radius = 0 if centre == exact else 1
+    return centre - radius, centre + radius
+
+
+FORMS = {"ends": two_ends, "centre": centre_ends}
+
+
+class Book:
+    """Sizes, observed amounts and rules, and the number form that the book was opened with."""
+
+    def __init__(self, properties, rows, columns, form):
         if not (1 <= properties <= 4 and 1 <= rows <= 16 and 1 <= columns <= 12 and columns <= rows):
             raise Refused(1, OF_BOOK, (0, 0, 0), "the sizes are outside the limits of a book")
         self.properties, self.rows, self.columns = properties, rows, columns
+        self.form = form
         self.amounts = {}  # an amount that was never entered is 0
         self.rules = [[] for _ in range(properties)]
 
@@ -122,7 +140,7 @@ class Book:
     def factor(self, m, k):
         """The two ends of the estimated factor, in ten-millionths."""
         exact = self.estimated_fraction(m, k) * TEN_MILLIONTHS
-        low, high = floor(exact), ceil(exact)
+        low, high = FORMS[self.form](exact)
         if low < -FACTOR_CEILING or high > FACTOR_CEILING:
             raise Refused(15, OF_FORM, (m, 0, k), f"the factor passes the ceiling, {FACTOR_CEILING}")
         return low, high
@@ -154,6 +172,11 @@ def signed(word):
     return within(word, -(2**63), 2**63 - 1)
 
 
+def form_name(word):
+    """The name of a number form, or None."""
+    return word if word in FORMS else None
+
+
 def within(word, least, greatest):
     digits = word.lstrip("+-").lstrip("0") or "0"
     if len(digits) > 20:
@@ -163,6 +186,7 @@ def within(word, least, greatest):
 
 
 ARGUMENTS = {
+    "form": [form_name],
     "open": [unsigned] * 3,
     "enter": [unsigned] * 3 + [signed],
     "term": [unsigned] * 4 + [signed],
@@ -185,12 +209,15 @@ def understood(words):
 
 
 class Calls:
-    """A sequence of calls: it works on at most one book, a draft or closed."""
+    """A sequence of calls: it works on at most one book, a draft or closed.
+
+    The form that was set last is that of the next book to be opened.
+    """
 
     TAKEN = {
-        "draft": ("open", "enter", "term", "close"),
-        "closed": ("open", "factor", "reopen"),
-        "none": ("open",),
+        "draft": ("form", "open", "enter", "term", "close"),
+        "closed": ("form", "open", "factor", "reopen"),
+        "none": ("form", "open"),
     }
     NOT_TAKEN = {
         "draft": "not taken by a draft",
@@ -200,6 +227,7 @@ class Calls:
 
     def __init__(self):
         self.state, self.book = "none", None
+        self.next_form = "ends"
 
     def outcome(self, call, values):
         if call not in self.TAKEN[self.state]:
@@ -209,9 +237,13 @@ class Calls:
         except Refused as refusal:
             return str(refusal)
 
+    def form(self, name):
+        self.next_form = name
+        return "accepted"
+
     def open(self, properties, rows, columns):
         self.state, self.book = "none", None
-        self.book = Book(properties, rows, columns)
+        self.book = Book(properties, rows, columns, self.next_form)
         self.state = "draft"
         return "accepted"
 

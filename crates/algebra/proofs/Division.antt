@@ -1,4 +1,4 @@
--- Division rounded down and up. Assumes nothing.
+-- Division rounded down and up.
 use mathlib.Core.Path.{_≡_, refl, sym, _∙_, ap, subst}
 use Prim.Native.Nat.{ℕ, zero, suc, _+_, _*_, _/_, _%_, _≤_, _<_, suc-le-suc}
 use native.Mathlib.Nat as N
@@ -64,3 +64,27 @@ floor-mono {a} {b} m p h = floor-greatest b (floorDiv a m) m p (chain (pos m *�
 pub floor-small : (z : ℤ) (m : ℕ) → natAbs (floorDiv z m) ≤ natAbs z
 floor-small (pos a) m = N.div-le-self a m
 floor-small (negsuc a) m = suc-le-suc (N.div-le-self a m)
+
+-- a quotient by a thousand and more is small
+thousandth : (a n : ℕ) → 1000 ≤ n → 1000 * (a / n) ≤ a
+thousandth a n h = N.le-trans (N.mul-le-mul-right (a / n) h) (N.mul-div-le a n)
+
+pub floor-thousandth : (z : ℤ) (n : ℕ) → 1000 ≤ n → 1000 * natAbs (floorDiv z n) ≤ natAbs z + 1000
+floor-thousandth (pos a) n h = omega (arith, thousandth a n h)
+floor-thousandth (negsuc a) n h = omega (arith, thousandth a n h)
+
+pub ceil-thousandth : (z : ℤ) (n : ℕ) → 1000 ≤ n → 1000 * natAbs (ceilDiv z n) ≤ natAbs z + 1000
+ceil-thousandth z n h = turned (floorDiv (negℤ z) n) (floor-thousandth (negℤ z) n h)
+  where
+    turned : (q : ℤ) → 1000 * natAbs q ≤ natAbs (negℤ z) + 1000 → 1000 * natAbs (negℤ q) ≤ natAbs z + 1000
+    turned q k = omega (arith, ints)
+
+-- what is not below 0 is not rounded below it
+pub ceil-some : (x : ℤ) (n : ℕ) → 0 < n → pos 0 ≤ℤ x → pos 0 ≤ℤ ceilDiv x n
+ceil-some x n some h = cancel-lt n (pos 0) (ceilDiv x n) (below (pos n *ℤ pos 0) x (pos n *ℤ ceilDiv x n) n h (ceil-ge x n some) (nought n) some)
+  where
+    nought : (n : ℕ) → pos n *ℤ pos 0 ≡ pos 0
+    nought n = omega (arith, ints)
+
+    below : (o x t : ℤ) (n : ℕ) → pos 0 ≤ℤ x → x ≤ℤ t → o ≡ pos 0 → 0 < n → o <ℤ (t +ℤ pos n)
+    below o x t n g k e l = omega (arith, ints)

@@ -7,3 +7,5 @@ pub mod Fits
 pub mod Enclosure
 pub mod Narrowness
 pub mod MixRatio
+pub mod CentreLaws
+pub mod Around

@@ -1,1 +1,3 @@
 pub mod Interval
+pub mod Centre
+pub mod Sizes

@@ -6,6 +6,8 @@ use book::rules::Term;
 use forms::FormFault;
 use forms::FormFaultPartialEq;
 use forms::SummingForm;
+use forms::centre::CentreRadius;
+use forms::centre::CentreSums;
 use forms::two_ends::TwoEnds;
 use forms::two_ends::TwoEndsSums;
 use forms::whole::WholeSums;
@@ -73,5 +75,30 @@ fn past_the_ceiling() -> Result<(), Fail> {
     match exposure(&cells, &SIZES, &rule(), 1, 0) {
         Ok(_) => Err(Fail::new("taken")),
         Err(fault) => check(fault == FormFault::AmountCeiling),
+    }
+}
+
+// The same of centres and radii: the radii are added, twice the first and once the second.
+#[test]
+fn centre_and_radius() -> Result<(), Fail> {
+    let zero = CentreRadius {
+        centre: 0,
+        radius: 0,
+    };
+    let cells = [
+        CentreRadius {
+            centre: 31,
+            radius: 1,
+        },
+        zero,
+        CentreRadius {
+            centre: 52,
+            radius: 3,
+        },
+        zero,
+    ];
+    match exposure(&cells, &SIZES, &rule(), 1, 0) {
+        Ok(sum) => check(sum.pair() == (5, 15)),
+        Err(_) => Err(Fail::new("refused")),
     }
 }

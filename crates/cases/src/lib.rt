@@ -3,3 +3,5 @@
 mod exposures;
 #[cfg(test)]
 mod factors;
+#[cfg(test)]
+mod operations;

@@ -2,18 +2,22 @@
 use mathlib.Core.Path.{_≡_, refl, sym, ap, subst, _∙_}
 use mathlib.Core.List.{[], _∷_}
 use mathlib.Core.Bool.{true, false}
-use Prim.Native.Nat.{ℕ, suc, _<_}
+use Prim.Native.Nat.{ℕ, suc, _-_, _≤_, _<_}
 use native.Mathlib.Omega.{arith}
 use lib.IntN.{ℤ, pos, negsuc, negℤ, natAbs, _+ℤ_, _*ℤ_}
-use lib.Signed.{_≤ℤ_, _<ℤ_, leZ}
+use lib.Dec.{T}
+use lib.Signed.{_≤ℤ_, _<ℤ_, leZ, leZ-yes}
 use mir.Syntax.{w64}
 use mir.Val.{toZ, ofZ, SFits}
 use Rattle.std.proofs.shelf.Signed.{ints, toZ-ofZ}
 use Rattle.algebra.proofs.Ints.{nn, 0≤*, *ℤ-mono}
 use Rattle.algebra.proofs.Quote.{quotes, cert, 0≤gap}
 use Rattle.algebra.proofs.Division.{floor-le, ceil-ge, cancel-lt}
-use Rattle.algebra.specs.Interval.{Ends, floorDiv, ceilDiv}
-use Rattle.paper.specs.Numbers.{Amount, both}
+use Rattle.algebra.specs.Interval.{Ends, floorDiv, ceilDiv, least, greatest, apply}
+use Rattle.algebra.specs.Sizes.{FactorSize, AmountSize}
+use Rattle.paper.proofs.EndsForm.{ends-lawful}
+use Rattle.paper.specs.EndsForm.{ends-mix}
+use Rattle.paper.specs.Numbers.{Amount, Factor, both}
 use Rattle.paper.specs.Sums.{multiple-of-ends}
 
 pub back : (z : ℤ) → SFits w64 z → toZ w64 (ofZ w64 z) ≡ z
@@ -101,3 +105,77 @@ ratio-order z q some = cancel-lt q (floorDiv z q) (ceilDiv z q) (joined (pos q *
   where
     joined : (a z b : ℤ) (q : ℕ) → a ≤ℤ z → z ≤ℤ b → 0 < q → a <ℤ (b +ℤ pos q)
     joined a z b q h k l = omega (arith, ints)
+
+factor-low-fits : (a b : ℤ) → Factor (both a b) → SFits w64 a
+factor-low-fits a b s = let p = s .low in let q = s .order in let r = s .high in omega (arith, ints)
+
+factor-high-fits : (a b : ℤ) → Factor (both a b) → SFits w64 b
+factor-high-fits a b s = let p = s .low in let q = s .order in let r = s .high in omega (arith, ints)
+
+-- the sizes of a factor's ends, as a call is passed them
+pub factor-sizes : (a b : ℤ) → Factor (both a b) → FactorSize (toZ w64 (ofZ w64 a)) × FactorSize (toZ w64 (ofZ w64 b))
+factor-sizes a b s =
+    let p = s .low in
+    let q = s .order in
+    let r = s .high in
+    (rw (back a (factor-low-fits a b s)) (record { size = omega (arith, ints) }), rw (back b (factor-high-fits a b s)) (record { size = omega (arith, ints) }))
+
+ordered-in : (l h : ℤ) → l ≤ℤ h → T (leZ l h)
+ordered-in l h o = o .le
+
+-- a mix of two factors, as the calls leave it
+module _ (w : ℕ) (few : w ≤ 1000) (a b c d x y l h : ℤ) (f : Factor (both a b)) (g : Factor (both c d))
+    (x-fits : SFits w64 x) (y-fits : SFits w64 y) (l-fits : SFits w64 l) (h-fits : SFits w64 h)
+    (x-is : x ≡ pos (1000 - w) *ℤ toZ w64 (ofZ w64 a) +ℤ pos w *ℤ toZ w64 (ofZ w64 c)) (y-is : y ≡ pos (1000 - w) *ℤ toZ w64 (ofZ w64 b) +ℤ pos w *ℤ toZ w64 (ofZ w64 d))
+    (l-is : l ≡ floorDiv (toZ w64 (ofZ w64 x)) 1000) (h-is : h ≡ ceilDiv (toZ w64 (ofZ w64 y)) 1000) where
+  least-mix : toZ w64 (ofZ w64 x) ≡ pos (1000 - w) *ℤ a +ℤ pos w *ℤ c
+  least-mix = back x x-fits ∙ x-is ∙ rw (back a (factor-low-fits a b f), back c (factor-low-fits c d g))
+
+  greatest-mix : toZ w64 (ofZ w64 y) ≡ pos (1000 - w) *ℤ b +ℤ pos w *ℤ d
+  greatest-mix = back y y-fits ∙ y-is ∙ rw (back b (factor-high-fits a b f), back d (factor-high-fits c d g))
+
+  low-mix : toZ w64 (ofZ w64 l) ≡ ends-mix w (both a b) (both c d) .lo
+  low-mix = back l l-fits ∙ l-is ∙ ap (λ z. floorDiv z 1000) least-mix
+
+  high-mix : toZ w64 (ofZ w64 h) ≡ ends-mix w (both a b) (both c d) .hi
+  high-mix = back h h-fits ∙ h-is ∙ ap (λ z. ceilDiv z 1000) greatest-mix
+
+  pub mix-ends : both (toZ w64 (ofZ w64 l)) (toZ w64 (ofZ w64 h)) ≡ ends-mix w (both a b) (both c d)
+  mix-ends = both-eq low-mix high-mix
+
+  pub mix-order : toZ w64 (ofZ w64 l) ≤ℤ toZ w64 (ofZ w64 h)
+  mix-order = rw (low-mix, high-mix) (leZ-yes (ends-lawful .can-mix w (both a b) (both c d) few (ordered-in a b (f .order)) (ordered-in c d (g .order))))
+
+-- an application, likewise
+module _ (x y c d p q l h : ℤ) (f : Factor (both x y)) (a : Amount (both c d))
+    (p-fits : SFits w64 p) (q-fits : SFits w64 q) (l-fits : SFits w64 l) (h-fits : SFits w64 h)
+    (p-is : p ≡ least (both (toZ w64 (ofZ w64 x)) (toZ w64 (ofZ w64 y))) (both (toZ w64 (ofZ w64 c)) (toZ w64 (ofZ w64 d))))
+    (q-is : q ≡ greatest (both (toZ w64 (ofZ w64 x)) (toZ w64 (ofZ w64 y))) (both (toZ w64 (ofZ w64 c)) (toZ w64 (ofZ w64 d))))
+    (l-is : l ≡ floorDiv (toZ w64 (ofZ w64 p)) 10000000) (h-is : h ≡ ceilDiv (toZ w64 (ofZ w64 q)) 10000000) where
+  factor-back : both (toZ w64 (ofZ w64 x)) (toZ w64 (ofZ w64 y)) ≡ both x y
+  factor-back = both-eq (back x (factor-low-fits x y f)) (back y (factor-high-fits x y f))
+
+  amount-back : both (toZ w64 (ofZ w64 c)) (toZ w64 (ofZ w64 d)) ≡ both c d
+  amount-back = both-eq (back c (low-fits c d a)) (back d (high-fits c d a))
+
+  least-back : toZ w64 (ofZ w64 p) ≡ least (both x y) (both c d)
+  least-back = back p p-fits ∙ p-is ∙ ap (λ e. least e (both (toZ w64 (ofZ w64 c)) (toZ w64 (ofZ w64 d)))) factor-back ∙ ap (least (both x y)) amount-back
+
+  greatest-back : toZ w64 (ofZ w64 q) ≡ greatest (both x y) (both c d)
+  greatest-back = back q q-fits ∙ q-is ∙ ap (λ e. greatest e (both (toZ w64 (ofZ w64 c)) (toZ w64 (ofZ w64 d)))) factor-back ∙ ap (greatest (both x y)) amount-back
+
+  low-apply : toZ w64 (ofZ w64 l) ≡ floorDiv (least (both x y) (both c d)) 10000000
+  low-apply = back l l-fits ∙ l-is ∙ ap (λ z. floorDiv z 10000000) least-back
+
+  high-apply : toZ w64 (ofZ w64 h) ≡ ceilDiv (greatest (both x y) (both c d)) 10000000
+  high-apply = back h h-fits ∙ h-is ∙ ap (λ z. ceilDiv z 10000000) greatest-back
+
+  pub apply-ends : both (toZ w64 (ofZ w64 l)) (toZ w64 (ofZ w64 h)) ≡ apply (both x y) (both c d)
+  unfolding apply
+  apply-ends = both-eq low-apply high-apply
+
+  in-order : (e : Ends) → T (leZ (e .lo) (e .hi)) → (u v : ℤ) → both u v ≡ e → u ≤ℤ v
+  in-order e t u v s = subst (λ (i : Ends). i .lo ≤ℤ i .hi) (sym s) (leZ-yes t)
+
+  pub apply-order : toZ w64 (ofZ w64 l) ≤ℤ toZ w64 (ofZ w64 h)
+  apply-order = in-order (apply (both x y) (both c d)) (ends-lawful .can-apply (both x y) (both c d) (ordered-in x y (f .order)) (ordered-in c d (a .order))) _ _ apply-ends

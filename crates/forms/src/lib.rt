@@ -1,6 +1,6 @@
 // Number forms: what amounts and factors are to the engine. Everything above is written once, for every form.
 ghost use mathlib.Core.Path.{_≡_};
-ghost use Prim.Native.Nat.{ℕ};
+ghost use Prim.Native.Nat.{ℕ, _≤_};
 ghost use lib.IntN.{ℤ, pos, negsuc, natAbs};
 ghost use lib.Signed.{_≤ℤ_, _<ℤ_};
 ghost use Rattle.algebra.specs.Interval.{Ends};
@@ -9,6 +9,7 @@ ghost use Rattle.paper.specs.Sums.{sum-of-ends, multiple-of-ends};
 ghost use Rattle.paper.specs.Forms.{Form, Lawful};
 ghost use Rattle.forms.specs.Told.{told, ceiled, factor-ceiled};
 
+pub mod centre;
 pub mod two_ends;
 pub mod whole;
 
@@ -24,6 +25,12 @@ pub const AMOUNT_CEILING: i64 = 40_000_000_000;
 
 // The largest factor of either sign, in ten-millionths.
 pub const FACTOR_CEILING: i64 = 200_000_000;
+
+// Ten-millionths in one.
+pub(crate) const SCALE: i64 = 10_000_000;
+
+// Parts in a whole weight.
+pub(crate) const WEIGHTS: i64 = 1000;
 
 // An amount between two ends, with sums and multiples. A result past the ceiling is refused, exactly then.
 pub trait SummingForm: Copy {
@@ -76,6 +83,15 @@ pub trait ProjectingForm: SummingForm {
 
     // p / q of two amounts
     fn ratio(p: i64, q: i64) -> Result<Self::Factor, FormFault>
-        requires { ⌜ Amount (point p) ⌝ ∗ ⌜ pos 0 <ℤ q ⌝ }
+        requires { ⌜ Amount (point p) ⌝ ∗ ⌜ pos 0 <ℤ q ⌝ ∗ ⌜ Amount (point q) ⌝ }
         ensures { λ r. ⌜ told fends r ≡ factor-ceiled (form .ratio p (natAbs q)) ⌝ };
+
+    // ((1000 - w) f + w g) / 1000
+    fn mix(w: u16, f: &Self::Factor, g: &Self::Factor) -> Result<Self::Factor, FormFault>
+        requires { ⌜ w ≤ 1000 ⌝ }
+        ensures { λ r. ⌜ told fends r ≡ factor-ceiled (form .mix w (fends (now (f .entry))) (fends (now (g .entry)))) ⌝ };
+
+    // A factor applied to an amount: f a / 10^7
+    fn apply(f: &Self::Factor, a: &Self) -> Result<Self, FormFault>
+        ensures { λ r. ⌜ told (Self·SummingForm .ends) r ≡ ceiled (form .apply (fends (now (f .entry))) (Self·SummingForm .ends (now (a .entry)))) ⌝ };
 }

@@ -9,13 +9,15 @@ use crate::AMOUNT_CEILING;
 use crate::FACTOR_CEILING;
 use crate::FormFault;
 use crate::ProjectingForm;
+use crate::SCALE;
 use crate::SummingForm;
+use crate::WEIGHTS;
+use algebra::greatest_product;
+use algebra::least_product;
 use algebra::product;
 use algebra::rounded_down;
 use algebra::rounded_up;
-
-// Ten-millionths in one.
-const SCALE: i64 = 10_000_000;
+use algebra::weighted;
 
 // An amount between two ends. Numbers out of order or past the ceiling count as zero.
 #[derive(Clone, Copy)]
@@ -130,5 +132,21 @@ pub impl ProjectingForm for TwoEnds as TwoEndsProjects {
     fn ratio(p: i64, q: i64) -> Result<FactorEnds, FormFault> {
         let scaled = product(SCALE, p);
         factor_held(rounded_down(scaled, q), rounded_up(scaled, q))
+    }
+
+    fn mix(w: u16, f: &FactorEnds, g: &FactorEnds) -> Result<FactorEnds, FormFault> {
+        let (a, b) = f.read();
+        let (c, d) = g.read();
+        let least = weighted(w, a, c);
+        let greatest = weighted(w, b, d);
+        factor_held(rounded_down(least, WEIGHTS), rounded_up(greatest, WEIGHTS))
+    }
+
+    fn apply(f: &FactorEnds, a: &TwoEnds) -> Result<TwoEnds, FormFault> {
+        let (x, y) = f.read();
+        let (c, d) = a.read();
+        let least = least_product(x, y, c, d);
+        let greatest = greatest_product(x, y, c, d);
+        held(rounded_down(least, SCALE), rounded_up(greatest, SCALE))
     }
 }

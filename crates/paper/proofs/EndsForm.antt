@@ -1,4 +1,4 @@
--- The ends form is a form, of slack 2. Assumes nothing.
+-- The ends form is a form, of slack 2.
 use mathlib.Core.Path.{refl, ap, subst}
 use mathlib.Core.List.{[], _∷_}
 use Prim.Native.Nat.{ℕ, suc, _-_, _<_}

@@ -1,3 +1,4 @@
 pub mod Covering
 pub mod EndsForm
 pub mod Estimating
+pub mod CentreForm

@@ -5,3 +5,4 @@ pub mod EndsForm
 pub mod Books
 pub mod Sources
 pub mod Laws
+pub mod CentreForm

@@ -10,6 +10,7 @@ use std::io::Read;
 
 const USAGE: &str =
     "rulkhaved reads calls from standard input, one a line, and prints what each came to:
+  form ends | form centre              the number form of the books to come
   open P N C                           a new book of P properties, N rows and C columns
   enter M I K AMOUNT                   an observed amount, in hundredths
   term M L SHIFT REACH COEFFICIENT     a term, last in the rule of property M

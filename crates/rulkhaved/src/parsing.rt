@@ -4,9 +4,17 @@ use book::rules::Term;
 use lines::calls::Call;
 use std::str::SplitWhitespace;
 
+// The number form that a book is worked in.
+#[derive(Clone, Copy)]
+pub(crate) enum Form {
+    Ends,
+    Centre,
+}
+
 #[derive(Clone, Copy)]
 pub(crate) enum Line {
     Skipped,
+    Choose(Form),
     Open(Sizes),
     Made(Call),
     NotUnderstood,
@@ -73,8 +81,17 @@ fn question(words: &mut SplitWhitespace<'_>) -> Option<Line> {
     Some(Line::Made(Call::AskFactor { property, column }))
 }
 
+fn chosen(words: &mut SplitWhitespace<'_>) -> Option<Line> {
+    match words.next()? {
+        "ends" => Some(Line::Choose(Form::Ends)),
+        "centre" => Some(Line::Choose(Form::Centre)),
+        _ => None,
+    }
+}
+
 fn call(name: &str, words: &mut SplitWhitespace<'_>) -> Option<Line> {
     match name {
+        "form" => chosen(words),
         "open" => sizes(words),
         "enter" => entry(words),
         "term" => term(words),

@@ -1,9 +1,12 @@
 // A whole input: each `open` begins a line of calls, which is run as one.
 use crate::parsing;
+use crate::parsing::Form;
 use crate::parsing::Line;
 use crate::wording;
 use book::faults::Fault;
 use book::kinds::Sizes;
+use forms::centre::CentreProjects;
+use forms::centre::CentreRadius;
 use forms::two_ends::TwoEnds;
 use forms::two_ends::TwoEndsProjects;
 use lines::calls::Call;
@@ -55,11 +58,16 @@ fn calls_of(heap: Global, items: &[Item<'_>]) -> Result<Vec<Call>, AllocError> {
 // The outcomes of a line of calls, or why its book was not opened.
 fn outcomes_of(
     heap: Global,
+    form: Form,
     sizes: Sizes,
     calls: &[Call],
 ) -> Result<Result<Vec<Outcome>, Fault>, AllocError> {
     let mut outcomes = vec![in heap; Outcome::NotTaken(State::Drafted); calls.len()]?;
-    match run::<TwoEnds, Estimated>(&Estimated, sizes, calls, &mut outcomes) {
+    let ran = match form {
+        Form::Ends => run::<TwoEnds, Estimated>(&Estimated, sizes, calls, &mut outcomes),
+        Form::Centre => run::<CentreRadius, Estimated>(&Estimated, sizes, calls, &mut outcomes),
+    };
+    match ran {
         Ok(_) => Ok(Ok(outcomes)),
         Err(fault) => Ok(Err(fault)),
     }
@@ -69,6 +77,7 @@ fn outcomes_of(
 #[derive(Drop)]
 struct Session {
     heap: Global,
+    form: Form,
     out: String,
     outcomes: Vec<Outcome>,
     printed: usize,
@@ -79,7 +88,7 @@ impl Session {
     fn begin(&mut self, sizes: Sizes, after: &[Item<'_>]) -> Result<(), AnyError> {
         let calls = calls_of(self.heap, after)?;
         self.printed = 0;
-        match outcomes_of(self.heap, sizes, calls.as_slice())? {
+        match outcomes_of(self.heap, self.form, sizes, calls.as_slice())? {
             Ok(outcomes) => {
                 self.outcomes = outcomes;
                 self.out.push_str("accepted")?;
@@ -113,6 +122,11 @@ impl Session {
                 write!(self.out, "line {number}: not understood: ")?;
                 wording::echo(&mut self.out, item.text)?;
             }
+            Line::Choose(form) => {
+                self.form = form;
+                wording::echo(&mut self.out, item.text)?;
+                self.out.push_str(": accepted")?;
+            }
             Line::Open(sizes) => {
                 wording::echo(&mut self.out, item.text)?;
                 self.out.push_str(": ")?;
@@ -134,6 +148,7 @@ pub(crate) fn answers(heap: Global, text: &str) -> Result<(String, bool), AnyErr
     let items = items(heap, text)?;
     let mut session = Session {
         heap,
+        form: Form::Ends,
         out: String::new(heap),
         outcomes: Vec::new(heap),
         printed: 0,

@@ -16,4 +16,4 @@ factor-held-requires c κs =
     let z = c .product-scaled .result in
     let down : toZ w64 (ofZ w64 (c .rounded-down .result)) ≡ floorDiv z (natAbs (c .args .q)) = cc in
     let up : toZ w64 (ofZ w64 (c .rounded-up .result)) ≡ ceilDiv z (natAbs (c .args .q)) = cc in
-    rw (down, up) (ratio-order z (natAbs (c .args .q)) (above-0 (c .args .q) (c .pre .1)))
+    rw (down, up) (ratio-order z (natAbs (c .args .q)) (above-0 (c .args .q) (c .pre .1 .0)))

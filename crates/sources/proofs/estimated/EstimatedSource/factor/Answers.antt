@@ -56,7 +56,10 @@ ratio-requires g c κs =
     let few : seen b k ≤ 16 = omega (arith, s .fewRows) in
     let known = totals-known s m k (seen b k) (rows-cause b m k) t few (h .value) in
     let above = above-zero (t .exposures) (known .1) (λ e. c .if-totals-eq0 .left (ap (ofZ w64) e)) in
-    (subst (λ (z : ℤ). Amount (point z)) (sym (amount-back (t .amounts) (known .0))) (known .0), subst (λ (z : ℤ). pos 0 <ℤ z) (sym (amount-back (t .exposures) (h .kept))) above)
+    let under = sym (amount-back (t .exposures) (h .kept)) in (
+      subst (λ (z : ℤ). Amount (point z)) (sym (amount-back (t .amounts) (known .0))) (known .0),
+      (subst (λ (z : ℤ). pos 0 <ℤ z) under above, subst (λ (z : ℤ). Amount (point z)) under (h .kept)),
+    )
 
 pub returns : need.returns
 returns g c =
