@@ -9,3 +9,4 @@ pub mod Narrowness
 pub mod MixRatio
 pub mod CentreLaws
 pub mod Around
+pub mod Rounded

@@ -12,7 +12,8 @@ pub fn rounded_down(z: i64, d: i64) -> i64
     requires { ⌜ pos 0 <ℤ d ⌝ }
     ensures { λ r. ⌜ r ≡ floorDiv z (natAbs d) ⌝ }
 {
-    z.div_euclid(d)
+    let q = z / d;
+    if z % d < 0 { q - 1 } else { q }
 }
 
 // z / d, rounded up.
@@ -20,7 +21,8 @@ pub fn rounded_up(z: i64, d: i64) -> i64
     requires { ⌜ pos 0 <ℤ d ⌝ ∗ ⌜ ProductSize z ⌝ }
     ensures { λ r. ⌜ r ≡ ceilDiv z (natAbs d) ⌝ }
 {
-    -rounded_down(-z, d)
+    let q = z / d;
+    if z % d > 0 { q + 1 } else { q }
 }
 
 // A factor times an amount: both within their ceilings, so that 64 bits hold the product.

@@ -26,51 +26,42 @@ use Rattle.paper.specs.Sums.{sum-of-ends, multiple-of-ends}
 use Rattle.forms.specs.Centred.{around, centred, within-ceiling}
 use Rattle.forms.proofs.Reading.{both-eq}
 
--- the tests that were passed, as facts
-pub record Passed (c r C : ℤ) : Type 0 where
+-- the tests that a radius passed, as facts
+pub record Passed (r C : ℤ) : Type 0 where
   pub some : pos 0 ≤ℤ r
   pub small : r ≤ℤ C
-  pub low : negℤ C ≤ℤ c
-  pub high : c ≤ℤ C
   pub ceiling : C ≤ℤ pos 40000000000
 
-pub passed : (c r C : ℤ) → SFits w64 c → SFits w64 r → SFits w64 C → pos 0 ≤ℤ C → C ≤ℤ pos 40000000000 →
-    ltZ (toZ w64 (ofZ w64 r)) (pos 0) ≡ false → ltZ (toZ w64 (ofZ w64 C)) (toZ w64 (ofZ w64 r)) ≡ false →
-    ltZ (toZ w64 (ofZ w64 c)) (toZ w64 (ofZ w64 (pos 0 -ℤ toZ w64 (ofZ w64 C)))) ≡ false → ltZ (toZ w64 (ofZ w64 C)) (toZ w64 (ofZ w64 c)) ≡ false → Passed c r C
-passed c r C fc fr fC l h t₁ t₂ t₃ t₄ =
-    let ec = toZ-ofZ w64 c fc in
+pub passed : (r C : ℤ) → SFits w64 r → SFits w64 C → C ≤ℤ pos 40000000000 →
+    ltZ (toZ w64 (ofZ w64 r)) (pos 0) ≡ false → ltZ (toZ w64 (ofZ w64 C)) (toZ w64 (ofZ w64 r)) ≡ false → Passed r C
+passed r C fr fC h t₁ t₂ =
     let er = toZ-ofZ w64 r fr in
     let eC = toZ-ofZ w64 C fC in
-    let en : toZ w64 (ofZ w64 (pos 0 -ℤ toZ w64 (ofZ w64 C))) ≡ negℤ C = omega (arith, ints) in
     let u₁ : ltZ r (pos 0) ≡ false = rw er at t₁ in
     let u₂ : ltZ C r ≡ false = rw (eC, er) at t₂ in
-    let u₃ : ltZ c (negℤ C) ≡ false = rw (ec, en) at t₃ in
-    let u₄ : ltZ C c ≡ false = rw (eC, ec) at t₄ in
-    record { some = grind (arith, ints); small = grind (arith, ints); low = grind (arith, ints); high = grind (arith, ints); ceiling = h }
+    record { some = grind (arith, ints); small = grind (arith, ints); ceiling = h }
 
-module _ (c r C : ℤ) (p : Passed c r C) where
-  minus-back : toZ w64 (ofZ w64 (toZ w64 (ofZ w64 c) -ℤ toZ w64 (ofZ w64 r))) ≡ c -ℤ r
-  minus-back = let a = p .some in let b = p .small in let d = p .low in let e = p .high in let f = p .ceiling in omega (arith, ints)
+-- a bound of the centre, and the end that it is about
+low-moved : (c r C : ℤ) → leZ (r -ℤ C) c ≡ leZ (negℤ C) (c -ℤ r)
+low-moved c r C = grind (arith, ints)
 
-  plus-back : toZ w64 (ofZ w64 (toZ w64 (ofZ w64 c) +ℤ toZ w64 (ofZ w64 r))) ≡ c +ℤ r
-  plus-back = let a = p .some in let b = p .small in let d = p .low in let e = p .high in let f = p .ceiling in omega (arith, ints)
+high-moved : (c r C : ℤ) → leZ c (C -ℤ r) ≡ leZ (c +ℤ r) C
+high-moved c r C = grind (arith, ints)
 
-  neg-back : toZ w64 (ofZ w64 (pos 0 -ℤ toZ w64 (ofZ w64 C))) ≡ negℤ C
-  neg-back = let a = p .some in let b = p .small in let f = p .ceiling in omega (arith, ints)
+module _ (c r C : ℤ) (c-fits : SFits w64 c) (p : Passed r C) where
+  low-back : toZ w64 (ofZ w64 (toZ w64 (ofZ w64 r) -ℤ toZ w64 (ofZ w64 C))) ≡ r -ℤ C
+  low-back = let a = p .some in let b = p .small in let f = p .ceiling in omega (arith, ints)
 
-  ceiling-back : toZ w64 (ofZ w64 C) ≡ C
-  ceiling-back = let a = p .some in let b = p .small in let f = p .ceiling in omega (arith, ints)
+  high-back : toZ w64 (ofZ w64 (toZ w64 (ofZ w64 C) -ℤ toZ w64 (ofZ w64 r))) ≡ C -ℤ r
+  high-back = let a = p .some in let b = p .small in let f = p .ceiling in omega (arith, ints)
 
-  pub low-out : ltZ (toZ w64 (ofZ w64 (toZ w64 (ofZ w64 c) -ℤ toZ w64 (ofZ w64 r)))) (toZ w64 (ofZ w64 (pos 0 -ℤ toZ w64 (ofZ w64 C)))) ≡ true → false ≡ within-ceiling c r C
-  low-out t = let u : ltZ (c -ℤ r) (negℤ C) ≡ true = rw (minus-back, neg-back) at t in let a = p .some in grind (arith, ints)
-
-  pub high-test : ltZ (toZ w64 (ofZ w64 (toZ w64 (ofZ w64 c) -ℤ toZ w64 (ofZ w64 r)))) (toZ w64 (ofZ w64 (pos 0 -ℤ toZ w64 (ofZ w64 C)))) ≡ false →
-      leZ (toZ w64 (ofZ w64 (toZ w64 (ofZ w64 c) +ℤ toZ w64 (ofZ w64 r)))) (toZ w64 (ofZ w64 C)) ≡ within-ceiling c r C
+  pub high-test : leZ (toZ w64 (ofZ w64 (toZ w64 (ofZ w64 r) -ℤ toZ w64 (ofZ w64 C)))) (toZ w64 (ofZ w64 c)) ≡ true →
+      leZ (toZ w64 (ofZ w64 c)) (toZ w64 (ofZ w64 (toZ w64 (ofZ w64 C) -ℤ toZ w64 (ofZ w64 r)))) ≡ within-ceiling c r C
   high-test t =
-      let u : ltZ (c -ℤ r) (negℤ C) ≡ false = rw (minus-back, neg-back) at t in
+      let e = toZ-ofZ w64 c c-fits in
       let a : leZ (pos 0) r ≡ true = let h = p .some in grind (arith, ints) in
-      let b : leZ (negℤ C) (c -ℤ r) ≡ true = grind (arith, ints) in
-      rw (plus-back, ceiling-back, a, b)
+      let b : leZ (negℤ C) (c -ℤ r) ≡ true = sym (low-moved c r C) ∙ (rw (e, low-back) at t) in
+      rw (e, high-back, a, b) (high-moved c r C)
 
 -- ---- centres and radii that were read
 fits-size : (x : ℤ) → natAbs x ≤ 40000000000 → SFits w64 x

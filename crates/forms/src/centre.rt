@@ -57,19 +57,16 @@ fn factor_held(centre: i64, radius: i64) -> Result<FactorRadius, FormFault>
     Ok(FactorRadius { centre, radius })
 }
 
-// Whether a centre and a radius have their ends within a ceiling. A radius or a centre past it is ruled out first, so that
-// the ends fit 64 bits.
+// Whether a centre and a radius have their ends within a ceiling. The radius is tested first, so that 64 bits hold the
+// bounds of the centre.
 fn within(centre: i64, radius: i64, ceiling: i64) -> bool
     requires { ⌜ pos 0 ≤ℤ ceiling ⌝ ∗ ⌜ ceiling ≤ℤ pos 40000000000 ⌝ }
     ensures { λ r. ⌜ r ≡ within-ceiling centre radius ceiling ⌝ }
 {
-    if radius < 0 || radius > ceiling || centre < -ceiling || centre > ceiling {
+    if radius < 0 || radius > ceiling {
         return false;
     }
-    if centre - radius < -ceiling {
-        return false;
-    }
-    centre + radius <= ceiling
+    radius - ceiling <= centre && centre <= ceiling - radius
 }
 
 impl CentreRadius {

@@ -59,7 +59,7 @@ impl TwoEnds {
     fn read(&self) -> (i64, i64)
         ensures { λ r. ⌜ two-ends (now (self .entry)) ≡ both (r .0) (r .1) ⌝ ∗ ⌜ Amount (both (r .0) (r .1)) ⌝ }
     {
-        if self.low <= self.high && -AMOUNT_CEILING <= self.low && self.high <= AMOUNT_CEILING {
+        if -AMOUNT_CEILING <= self.low && self.low <= self.high && self.high <= AMOUNT_CEILING {
             (self.low, self.high)
         } else {
             (0, 0)
@@ -71,7 +71,7 @@ impl FactorEnds {
     fn read(&self) -> (i64, i64)
         ensures { λ r. ⌜ factor-ends (now (self .entry)) ≡ both (r .0) (r .1) ⌝ ∗ ⌜ Factor (both (r .0) (r .1)) ⌝ }
     {
-        if self.low <= self.high && -FACTOR_CEILING <= self.low && self.high <= FACTOR_CEILING {
+        if -FACTOR_CEILING <= self.low && self.low <= self.high && self.high <= FACTOR_CEILING {
             (self.low, self.high)
         } else {
             (0, 0)
