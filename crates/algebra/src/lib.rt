@@ -1,4 +1,6 @@
 // Quotients rounded down and up, and products that stay inside their width.
+#![tactic(auto)]
+
 ghost use Rattle.algebra.specs.Interval.{floor_div, ceil_div, least, greatest};
 ghost use Rattle.algebra.specs.Centre.{exact_radius, rest};
 ghost use Rattle.algebra.specs.Sizes.{FactorSize, AmountSize, ProductSize, CentreSize, Within};

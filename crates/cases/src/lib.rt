@@ -1,4 +1,6 @@
 // Worked cases. The expected numbers were worked by hand, in fractions.
+#![tactic(auto)]
+
 #[cfg(test)]
 mod exposures;
 #[cfg(test)]

@@ -1,4 +1,6 @@
 // Number forms: what amounts and factors are to the engine. Everything above is written once, for every form.
+#![tactic(auto)]
+
 ghost use Rattle.std.specs.Prelude.{◌≡◌, ℕ, ◌≤◌, ℤ, pos, negsuc, ◌≤ℤ◌, ◌<ℤ◌, unsigned_abs};
 ghost use Rattle.algebra.specs.Interval.{Ends};
 ghost use Rattle.paper.specs.Numbers.{Amount, Factor, both, point};

@@ -1,4 +1,6 @@
 // Exposures, gathered once for every summing form from a lent slice of amounts. Each addition and multiple may be refused.
+#![tactic(auto)]
+
 ghost use Rattle.std.specs.Prelude.{◌≡◌, ℕ, ◌+◌, ◌*◌, ◌<◌, ◌≤◌, map, length};
 ghost use Rattle.paper.specs.Books.{cell_at, total_of, with_terms};
 ghost use Rattle.paper.specs.Sums.{nothing};

@@ -1,4 +1,6 @@
 // Reads operations of the number forms from standard input, one a line, and prints what each came to.
+#![tactic(auto)]
+
 mod parsing;
 mod stored;
 mod wording;

@@ -1,4 +1,6 @@
 // The paper run: books, sources and forms in exact fractions. It is all specification; the crates above state their contracts in it.
+#![tactic(auto)]
+
 ghost use Rattle.paper.specs.CentreForm.{centre_form};
 ghost use Rattle.paper.specs.EndsForm.{ends_form};
 ghost use Rattle.paper.specs.Forms.{Lawful};

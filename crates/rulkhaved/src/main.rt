@@ -1,4 +1,6 @@
 // Reads calls from standard input, one a line, and prints what each came to.
+#![tactic(auto)]
+
 mod parsing;
 mod session;
 #[cfg(test)]

@@ -1,4 +1,6 @@
 // Sources of development factors: what each means, and its answer in any projecting form.
+#![tactic(auto)]
+
 pub mod estimated;
 pub mod exact;
 pub mod source;
