@@ -11,13 +11,13 @@ returns c =
     let y = to_z-of_z w64 c.args.y c.ranges.y in
     let a = to_z-of_z w64 c.args.c c.ranges.c in
     let b = to_z-of_z w64 c.args.d c.ranges.d in
-    let p = to_z-of_z w64 c.product-p.result (record { sfits = c.product-p.type-inv }) in
-    let q = to_z-of_z w64 c.product-q.result (record { sfits = c.product-q.type-inv }) in
-    let s = to_z-of_z w64 c.product-s.result (record { sfits = c.product-s.type-inv }) in
-    let t = to_z-of_z w64 c.product-t.result (record { sfits = c.product-t.type-inv }) in
-    let m = to_z-of_z w64 c.max.result (record { sfits = c.max.type-inv }) in
-    let n = to_z-of_z w64 c.max-2.result (record { sfits = c.max-2.type-inv }) in
-    let r = to_z-of_z w64 c.max-3.result (record { sfits = c.max-3.type-inv }) in
+    let p = to_z-of_z w64 c.product-p.result (record { sfits = c.product-p.type_inv }) in
+    let q = to_z-of_z w64 c.product-q.result (record { sfits = c.product-q.type_inv }) in
+    let s = to_z-of_z w64 c.product-s.result (record { sfits = c.product-s.type_inv }) in
+    let t = to_z-of_z w64 c.product-t.result (record { sfits = c.product-t.type_inv }) in
+    let m = to_z-of_z w64 c.max.result (record { sfits = c.max.type_inv }) in
+    let n = to_z-of_z w64 c.max-2.result (record { sfits = c.max-2.type_inv }) in
+    let r = to_z-of_z w64 c.max-3.result (record { sfits = c.max-3.type_inv }) in
     let v : to_z w64 (of_z w64 c.max-3.result) ≡ greatest (record { lo = c.args.x; hi = c.args.y }) (record { lo = c.args.c; hi = c.args.d }) = cc in
     let f = c.requires.factors in
     let g = c.requires.amounts in

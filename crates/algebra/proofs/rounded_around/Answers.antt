@@ -7,26 +7,26 @@ use Rattle.algebra.proofs.Around.{thousand, centre_within, radius_within, radius
 use Rattle.algebra.proofs.rounded_around.Goals as goal
 
 -- the numbers as the calls leave them
-centre_is : (c : goal.After-rounded-up-radius) → to_z w64 (of_z w64 c.rounded-down-centre.result) ≡ floor_div c.args.z (nat_abs c.args.d)
+centre_is : (c : goal.After-rounded_up-radius) → to_z w64 (of_z w64 c.rounded_down-centre.result) ≡ floor_div c.args.z (nat_abs c.args.d)
 centre_is c =
     let z = to_z-of_z w64 c.args.z c.ranges.z in
     let d = to_z-of_z w64 c.args.d c.ranges.d in
-    let r = to_z-of_z w64 c.rounded-down-centre.result (record { sfits = c.rounded-down-centre.type-inv }) in
+    let r = to_z-of_z w64 c.rounded_down-centre.result (record { sfits = c.rounded_down-centre.type_inv }) in
     cc
 
-radius_is : (c : goal.After-rounded-up-radius) → to_z w64 (of_z w64 c.rounded-up-radius.result) +ℤ to_z w64 (of_z w64 c.inexact-more.result) ≡ ceil_div c.args.x (nat_abs c.args.d) +ℤ rest c.args.z (nat_abs c.args.d)
+radius_is : (c : goal.After-rounded_up-radius) → to_z w64 (of_z w64 c.rounded_up-radius.result) +ℤ to_z w64 (of_z w64 c.inexact-more.result) ≡ ceil_div c.args.x (nat_abs c.args.d) +ℤ rest c.args.z (nat_abs c.args.d)
 radius_is c =
     let z = to_z-of_z w64 c.args.z c.ranges.z in
     let x = to_z-of_z w64 c.args.x c.ranges.x in
     let d = to_z-of_z w64 c.args.d c.ranges.d in
-    let r = to_z-of_z w64 c.rounded-up-radius.result (record { sfits = c.rounded-up-radius.type-inv }) in
-    let m = to_z-of_z w64 c.inexact-more.result (record { sfits = c.inexact-more.type-inv }) in
-    let u : c.rounded-up-radius.result ≡ ceil_div c.args.x (nat_abs c.args.d) = cc in
+    let r = to_z-of_z w64 c.rounded_up-radius.result (record { sfits = c.rounded_up-radius.type_inv }) in
+    let m = to_z-of_z w64 c.inexact-more.result (record { sfits = c.inexact-more.type_inv }) in
+    let u : c.rounded_up-radius.result ≡ ceil_div c.args.x (nat_abs c.args.d) = cc in
     let v : c.inexact-more.result ≡ rest c.args.z (nat_abs c.args.d) = cc in
     rw (r, m, u, v)
 
-pub overflow-add-result : goal.overflow-add-result
-overflow-add-result c =
+pub overflow_add-result : goal.overflow_add-result
+overflow_add-result c =
     rw (radius_is c)
     (radius_fits c.args.z c.args.x (nat_abs c.args.d) (thousand c.args.d c.requires.divisor.0) c.requires.sizes.0.size c.requires.sizes.1.0.size c.requires.sizes.1.1)
 

@@ -14,7 +14,7 @@ abs_is x c f e = e ∙ ap (λ z. pos (nat_abs z)) (to_z-of_z w64 c f)
 pub product-p-requires : goal.product-p-requires
 product-p-requires c =
     record {
-      factor = passed 200000000 (pos (nat_abs c.args.c)) c.abs.result (record { sfits = c.abs.type-inv }) (abs_is c.abs.result c.args.c c.ranges.c c.abs.ensures.value) (centre_within 200000000 c.args.c c.args.r c.requires.factor).0;
+      factor = passed 200000000 (pos (nat_abs c.args.c)) c.abs.result (record { sfits = c.abs.type_inv }) (abs_is c.abs.result c.args.c c.ranges.c c.abs.ensures.value) (centre_within 200000000 c.args.c c.args.r c.requires.factor).0;
       amount = passed 40000000000 c.args.s c.args.s c.ranges.s refl (centre_within 40000000000 c.args.e c.args.s c.requires.amount).1;
     }
 
@@ -22,7 +22,7 @@ pub product-q-requires : goal.product-q-requires
 product-q-requires c =
     record {
       factor = passed 200000000 c.args.r c.args.r c.ranges.r refl (centre_within 200000000 c.args.c c.args.r c.requires.factor).1;
-      amount = passed 40000000000 (pos (nat_abs c.args.e)) c.abs-2.result (record { sfits = c.abs-2.type-inv }) (abs_is c.abs-2.result c.args.e c.ranges.e c.abs-2.ensures.value) (centre_within 40000000000 c.args.e c.args.s c.requires.amount).0;
+      amount = passed 40000000000 (pos (nat_abs c.args.e)) c.abs-2.result (record { sfits = c.abs-2.type_inv }) (abs_is c.abs-2.result c.args.e c.ranges.e c.abs-2.ensures.value) (centre_within 40000000000 c.args.e c.args.s c.requires.amount).0;
     }
 
 pub product-t-requires : goal.product-t-requires
@@ -34,31 +34,31 @@ product-t-requires c =
 
 -- the three products
 p_is : (c : goal.After-product-t) → c.product-p.result ≡ pos (nat_abs c.args.c) *ℤ c.args.s
-p_is c = c.product-p.ensures.value ∙ rw (to_z-of_z w64 c.abs.result (record { sfits = c.abs.type-inv }), to_z-of_z w64 c.args.s c.ranges.s, abs_is c.abs.result c.args.c c.ranges.c c.abs.ensures.value)
+p_is c = c.product-p.ensures.value ∙ rw (to_z-of_z w64 c.abs.result (record { sfits = c.abs.type_inv }), to_z-of_z w64 c.args.s c.ranges.s, abs_is c.abs.result c.args.c c.ranges.c c.abs.ensures.value)
 
 q_is : (c : goal.After-product-t) → c.product-q.result ≡ c.args.r *ℤ pos (nat_abs c.args.e)
-q_is c = c.product-q.ensures.value ∙ rw (to_z-of_z w64 c.abs-2.result (record { sfits = c.abs-2.type-inv }), to_z-of_z w64 c.args.r c.ranges.r, abs_is c.abs-2.result c.args.e c.ranges.e c.abs-2.ensures.value)
+q_is c = c.product-q.ensures.value ∙ rw (to_z-of_z w64 c.abs-2.result (record { sfits = c.abs-2.type_inv }), to_z-of_z w64 c.args.r c.ranges.r, abs_is c.abs-2.result c.args.e c.ranges.e c.abs-2.ensures.value)
 
 t_is : (c : goal.After-product-t) → c.product-t.result ≡ c.args.r *ℤ c.args.s
 t_is c = c.product-t.ensures.value ∙ rw (to_z-of_z w64 c.args.r c.ranges.r, to_z-of_z w64 c.args.s c.ranges.s)
 
 two : (c : goal.After-product-t) → to_z w64 (of_z w64 c.product-p.result) +ℤ to_z w64 (of_z w64 c.product-q.result) ≡ c.product-p.result +ℤ c.product-q.result
-two c = rw (to_z-of_z w64 c.product-p.result (record { sfits = c.product-p.type-inv }), to_z-of_z w64 c.product-q.result (record { sfits = c.product-q.type-inv }))
+two c = rw (to_z-of_z w64 c.product-p.result (record { sfits = c.product-p.type_inv }), to_z-of_z w64 c.product-q.result (record { sfits = c.product-q.type_inv }))
 
 two_fits : (c : goal.After-product-t) → SFits w64 (c.product-p.result +ℤ c.product-q.result)
 two_fits c = two_fit c.args.c c.args.r c.args.e c.args.s c.product-p.result c.product-q.result c.product-t.result c.requires.factor c.requires.amount (p_is c) (q_is c) (t_is c)
 
 three : (c : goal.After-product-t) → to_z w64 (of_z w64 (to_z w64 (of_z w64 c.product-p.result) +ℤ to_z w64 (of_z w64 c.product-q.result))) +ℤ to_z w64 (of_z w64 c.product-t.result) ≡ c.product-p.result +ℤ c.product-q.result +ℤ c.product-t.result
-three c = rw (two c, to_z-of_z w64 (c.product-p.result +ℤ c.product-q.result) (two_fits c), to_z-of_z w64 c.product-t.result (record { sfits = c.product-t.type-inv }))
+three c = rw (two c, to_z-of_z w64 (c.product-p.result +ℤ c.product-q.result) (two_fits c), to_z-of_z w64 c.product-t.result (record { sfits = c.product-t.type_inv }))
 
 three_fits : (c : goal.After-product-t) → SFits w64 (c.product-p.result +ℤ c.product-q.result +ℤ c.product-t.result)
 three_fits c = three_fit c.args.c c.args.r c.args.e c.args.s c.product-p.result c.product-q.result c.product-t.result c.requires.factor c.requires.amount (p_is c) (q_is c) (t_is c)
 
-pub overflow-add-result : goal.overflow-add-result
-overflow-add-result c = rw (two c) (two_fits c)
+pub overflow_add-result : goal.overflow_add-result
+overflow_add-result c = rw (two c) (two_fits c)
 
-pub overflow-add-result-2 : goal.overflow-add-result-2
-overflow-add-result-2 c = rw (three c) (three_fits c)
+pub overflow_add-result-2 : goal.overflow_add-result-2
+overflow_add-result-2 c = rw (three c) (three_fits c)
 
 pub returns : goal.returns
 returns c =

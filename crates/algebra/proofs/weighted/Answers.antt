@@ -9,14 +9,14 @@ sum_is : (c : goal.After-product-other) → to_z w64 (of_z w64 c.product-own.res
 sum_is c =
     let x = to_z-of_z w64 c.args.x c.ranges.x in
     let y = to_z-of_z w64 c.args.y c.ranges.y in
-    let f = to_z-of_z w64 c.from.result (record { sfits = c.from.type-inv }) in
-    let g = to_z-of_z w64 c.from-2.result (record { sfits = c.from-2.type-inv }) in
-    let own = to_z-of_z w64 c.product-own.result (record { sfits = c.product-own.type-inv }) in
-    let other = to_z-of_z w64 c.product-other.result (record { sfits = c.product-other.type-inv }) in
+    let f = to_z-of_z w64 c.from.result (record { sfits = c.from.type_inv }) in
+    let g = to_z-of_z w64 c.from-2.result (record { sfits = c.from-2.type_inv }) in
+    let own = to_z-of_z w64 c.product-own.result (record { sfits = c.product-own.type_inv }) in
+    let other = to_z-of_z w64 c.product-other.result (record { sfits = c.product-other.type_inv }) in
     cc
 
-pub overflow-add-result : goal.overflow-add-result
-overflow-add-result c = rw (sum_is c) (weighted_fits (1000 - c.args.w) c.args.w c.args.x c.args.y (omega arith) c.requires.0 c.requires.1.0.size c.requires.1.1.size)
+pub overflow_add-result : goal.overflow_add-result
+overflow_add-result c = rw (sum_is c) (weighted_fits (1000 - c.args.w) c.args.w c.args.x c.args.y (omega arith) c.requires.0 c.requires.1.0.size c.requires.1.1.size)
 
 pub returns : goal.returns
 returns c =
