@@ -5,14 +5,14 @@ use Rattle.forms.proofs.centre.CentreRadiusProjectingForm.apply.Goals as goal
 
 pub held-requires : goal.held-requires
 held-requires c =
-    let k = c.rounded-around-centre.ensures.sizes in
+    let k = c.rounded_around-centre.ensures.sizes in
     rounded_held _ _ (fits_within _ k.0) (fits_within _ k.1.0) k.0 k.1.0 k.1.1
 
 pub returns : goal.returns
 returns c =
-    let k = c.rounded-around-centre.ensures.sizes in
+    let k = c.rounded_around-centre.ensures.sizes in
     rw (c.read-c.ensures.0, c.read-e.ensures.0)
     (c.held.ensures ∙ ap ceiled
     (apply_around _ _ _ _ c.product-middle.result c.spread-apart.result _ _ c.read-c.ensures.1 c.read-e.ensures.1
-    (record { sfits = c.product-middle.type-inv }) (record { sfits = c.spread-apart.type-inv }) (fits_within _ k.0) (fits_within _ k.1.0)
-    c.product-middle.ensures.value c.spread-apart.ensures.value c.rounded-around-centre.ensures.centre c.rounded-around-centre.ensures.radius))
+    (record { sfits = c.product-middle.type_inv }) (record { sfits = c.spread-apart.type_inv }) (fits_within _ k.0) (fits_within _ k.1.0)
+    c.product-middle.ensures.value c.spread-apart.ensures.value c.rounded_around-centre.ensures.centre c.rounded_around-centre.ensures.radius))

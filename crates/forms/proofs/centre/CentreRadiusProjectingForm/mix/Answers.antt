@@ -10,24 +10,24 @@ weighted-middle-requires c = (c.requires, (centre_passed 200000000 _ _ (lit≤ t
 pub weighted-apart-requires : goal.weighted-apart-requires
 weighted-apart-requires c = (c.requires, (radius_passed 200000000 _ _ (lit≤ tt) c.read-c.ensures.1, radius_passed 200000000 _ _ (lit≤ tt) c.read-e.ensures.1))
 
-pub rounded-around-centre-requires : goal.rounded-around-centre-requires
-rounded-around-centre-requires c =
+pub rounded_around-centre-requires : goal.rounded_around-centre-requires
+rounded_around-centre-requires c =
     record {
       divisor = (≤ℤ_refl (pos 1000), record { size = lit≤ tt });
       sizes = mix_passed c.args.w _ _ _ _ c.weighted-middle.result c.weighted-apart.result c.read-c.ensures.1 c.read-e.ensures.1
-          (record { sfits = c.weighted-middle.type-inv }) (record { sfits = c.weighted-apart.type-inv }) c.weighted-middle.ensures.size c.weighted-apart.ensures.size c.weighted-apart.ensures.value;
+          (record { sfits = c.weighted-middle.type_inv }) (record { sfits = c.weighted-apart.type_inv }) c.weighted-middle.ensures.size c.weighted-apart.ensures.size c.weighted-apart.ensures.value;
     }
 
-pub factor-held-requires : goal.factor-held-requires
-factor-held-requires c =
-    let k = c.rounded-around-centre.ensures.sizes in
+pub factor_held-requires : goal.factor_held-requires
+factor_held-requires c =
+    let k = c.rounded_around-centre.ensures.sizes in
     rounded_held _ _ (fits_within _ k.0) (fits_within _ k.1.0) k.0 k.1.0 k.1.1
 
 pub returns : goal.returns
 returns c =
-    let k = c.rounded-around-centre.ensures.sizes in
+    let k = c.rounded_around-centre.ensures.sizes in
     rw (c.read-c.ensures.0, c.read-e.ensures.0)
-    (c.factor-held.ensures ∙ ap factor_ceiled
+    (c.factor_held.ensures ∙ ap factor_ceiled
     (mix_around c.args.w _ _ _ _ c.weighted-middle.result c.weighted-apart.result _ _ c.read-c.ensures.1 c.read-e.ensures.1
-    (record { sfits = c.weighted-middle.type-inv }) (record { sfits = c.weighted-apart.type-inv }) (fits_within _ k.0) (fits_within _ k.1.0)
-    c.weighted-middle.ensures.value c.weighted-apart.ensures.value c.rounded-around-centre.ensures.centre c.rounded-around-centre.ensures.radius))
+    (record { sfits = c.weighted-middle.type_inv }) (record { sfits = c.weighted-apart.type_inv }) (fits_within _ k.0) (fits_within _ k.1.0)
+    c.weighted-middle.ensures.value c.weighted-apart.ensures.value c.rounded_around-centre.ensures.centre c.rounded_around-centre.ensures.radius))

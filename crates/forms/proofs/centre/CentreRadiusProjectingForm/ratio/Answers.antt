@@ -3,11 +3,11 @@ use Rattle.std.proofs.lemmas.Int.{ints, to_z-of_z}
 use Rattle.forms.proofs.Centring.{quotient_held}
 use Rattle.forms.proofs.centre.CentreRadiusProjectingForm.ratio.Goals as goal
 
-pub factor-held-requires : goal.factor-held-requires
-factor-held-requires c =
+pub factor_held-requires : goal.factor_held-requires
+factor_held-requires c =
     let low = c.requires.0.low in
     let high = c.requires.0.high in
     let small : nat_abs c.args.p ≤ 40000000000 = omega (arith, ints) in
-    quotient_held c.args.p c.args.q c.product-scaled.result c.rounded-down-centre.result c.inexact-radius.result small c.ranges.q
-    (record { sfits = c.product-scaled.type-inv }) (record { sfits = c.rounded-down-centre.type-inv }) (record { sfits = c.inexact-radius.type-inv })
-    (c.product-scaled.ensures.value ∙ ap (λ z. pos 10000000 *ℤ z) (to_z-of_z w64 c.args.p c.ranges.p)) c.rounded-down-centre.ensures c.inexact-radius.ensures
+    quotient_held c.args.p c.args.q c.product-scaled.result c.rounded_down-centre.result c.inexact-radius.result small c.ranges.q
+    (record { sfits = c.product-scaled.type_inv }) (record { sfits = c.rounded_down-centre.type_inv }) (record { sfits = c.inexact-radius.type_inv })
+    (c.product-scaled.ensures.value ∙ ap (λ z. pos 10000000 *ℤ z) (to_z-of_z w64 c.args.p c.ranges.p)) c.rounded_down-centre.ensures c.inexact-radius.ensures

@@ -5,14 +5,14 @@ use Rattle.forms.proofs.two_ends.TwoEndsProjectingForm.apply.Goals as goal
 
 pub held-requires : goal.held-requires
 held-requires c =
-    apply_order _ _ _ _ c.least-product-least.result c.greatest-product-greatest.result c.rounded_down.result c.rounded_up.result c.read-x.ensures.1 c.read-c.ensures.1
-    (record { sfits = c.least-product-least.type-inv }) (record { sfits = c.greatest-product-greatest.type-inv }) (record { sfits = c.rounded_down.type-inv }) (record { sfits = c.rounded_up.type-inv })
-    c.least-product-least.ensures.value c.greatest-product-greatest.ensures.value c.rounded_down.ensures c.rounded_up.ensures
+    apply_order _ _ _ _ c.least_product-least.result c.greatest_product-greatest.result c.rounded_down.result c.rounded_up.result c.read-x.ensures.1 c.read-c.ensures.1
+    (record { sfits = c.least_product-least.type_inv }) (record { sfits = c.greatest_product-greatest.type_inv }) (record { sfits = c.rounded_down.type_inv }) (record { sfits = c.rounded_up.type_inv })
+    c.least_product-least.ensures.value c.greatest_product-greatest.ensures.value c.rounded_down.ensures c.rounded_up.ensures
 
 pub returns : goal.returns
 returns c =
     rw (c.read-x.ensures.0, c.read-c.ensures.0)
     (c.held.ensures ∙ ap ceiled
-    (apply_ends _ _ _ _ c.least-product-least.result c.greatest-product-greatest.result c.rounded_down.result c.rounded_up.result c.read-x.ensures.1 c.read-c.ensures.1
-    (record { sfits = c.least-product-least.type-inv }) (record { sfits = c.greatest-product-greatest.type-inv }) (record { sfits = c.rounded_down.type-inv }) (record { sfits = c.rounded_up.type-inv })
-    c.least-product-least.ensures.value c.greatest-product-greatest.ensures.value c.rounded_down.ensures c.rounded_up.ensures))
+    (apply_ends _ _ _ _ c.least_product-least.result c.greatest_product-greatest.result c.rounded_down.result c.rounded_up.result c.read-x.ensures.1 c.read-c.ensures.1
+    (record { sfits = c.least_product-least.type_inv }) (record { sfits = c.greatest_product-greatest.type_inv }) (record { sfits = c.rounded_down.type_inv }) (record { sfits = c.rounded_up.type_inv })
+    c.least_product-least.ensures.value c.greatest_product-greatest.ensures.value c.rounded_down.ensures c.rounded_up.ensures))

@@ -3,12 +3,12 @@ use Rattle.algebra.specs.Interval.{floor_div, ceil_div}
 use Rattle.forms.proofs.Reading.{back, above_0, ratio_order}
 use Rattle.forms.proofs.two_ends.TwoEndsProjectingForm.ratio.Goals as goal
 
-pub factor-held-requires : goal.factor-held-requires
-factor-held-requires c =
-    let s = back c.product-scaled.result (record { sfits = c.product-scaled.type-inv }) in
+pub factor_held-requires : goal.factor_held-requires
+factor_held-requires c =
+    let s = back c.product-scaled.result (record { sfits = c.product-scaled.type_inv }) in
     let q = back c.args.q c.ranges.q in
-    let d = back c.rounded_down.result (record { sfits = c.rounded_down.type-inv }) in
-    let u = back c.rounded_up.result (record { sfits = c.rounded_up.type-inv }) in
+    let d = back c.rounded_down.result (record { sfits = c.rounded_down.type_inv }) in
+    let u = back c.rounded_up.result (record { sfits = c.rounded_up.type_inv }) in
     let z = c.product-scaled.result in
     let down : to_z w64 (of_z w64 c.rounded_down.result) ≡ floor_div z (nat_abs c.args.q) = cc in
     let up : to_z w64 (of_z w64 c.rounded_up.result) ≡ ceil_div z (nat_abs c.args.q) = cc in

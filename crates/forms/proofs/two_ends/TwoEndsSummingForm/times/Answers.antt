@@ -6,24 +6,24 @@ use Rattle.forms.proofs.two_ends.TwoEndsSummingForm.times.Goals as goal
 
 pub held-requires : goal.held-requires
 held-requires c =
-    kept_order _ _ _ _ _ c.ranges.coefficient c.read-a.ensures.1 (record { sfits = c.product-at-low.type-inv }) (record { sfits = c.product-at-high.type-inv })
-    c.product-at-low.ensures.value c.product-at-high.ensures.value c.if-coefficient-ge0.true
+    kept_order _ _ _ _ _ c.ranges.coefficient c.read-a.ensures.1 (record { sfits = c.product-at_low.type_inv }) (record { sfits = c.product-at_high.type_inv })
+    c.product-at_low.ensures.value c.product-at_high.ensures.value c.if-coefficient-ge0.true
 
 pub held-requires-else-coefficient-ge0 : goal.held-requires-else-coefficient-ge0
 held-requires-else-coefficient-ge0 c =
-    exchanged_order _ _ _ _ _ c.ranges.coefficient c.read-a.ensures.1 (record { sfits = c.product-at-low.type-inv }) (record { sfits = c.product-at-high.type-inv })
-    c.product-at-low.ensures.value c.product-at-high.ensures.value c.if-coefficient-ge0.false
+    exchanged_order _ _ _ _ _ c.ranges.coefficient c.read-a.ensures.1 (record { sfits = c.product-at_low.type_inv }) (record { sfits = c.product-at_high.type_inv })
+    c.product-at_low.ensures.value c.product-at_high.ensures.value c.if-coefficient-ge0.false
 
 pub returns-then-coefficient-ge0 : goal.returns-then-coefficient-ge0
 returns-then-coefficient-ge0 c =
     c.held.ensures ∙ ap ceiled
-    (kept_ends _ _ _ _ _ c.ranges.coefficient c.read-a.ensures.1 (record { sfits = c.product-at-low.type-inv }) (record { sfits = c.product-at-high.type-inv })
-    c.product-at-low.ensures.value c.product-at-high.ensures.value c.if-coefficient-ge0.true
+    (kept_ends _ _ _ _ _ c.ranges.coefficient c.read-a.ensures.1 (record { sfits = c.product-at_low.type_inv }) (record { sfits = c.product-at_high.type_inv })
+    c.product-at_low.ensures.value c.product-at_high.ensures.value c.if-coefficient-ge0.true
     ∙ ap (multiple_of_ends c.args.coefficient) (sym c.read-a.ensures.0))
 
 pub returns-else-coefficient-ge0 : goal.returns-else-coefficient-ge0
 returns-else-coefficient-ge0 c =
     c.held-else-coefficient-ge0.ensures ∙ ap ceiled
-    (exchanged_ends _ _ _ _ _ c.ranges.coefficient c.read-a.ensures.1 (record { sfits = c.product-at-low.type-inv }) (record { sfits = c.product-at-high.type-inv })
-    c.product-at-low.ensures.value c.product-at-high.ensures.value c.if-coefficient-ge0.false
+    (exchanged_ends _ _ _ _ _ c.ranges.coefficient c.read-a.ensures.1 (record { sfits = c.product-at_low.type_inv }) (record { sfits = c.product-at_high.type_inv })
+    c.product-at_low.ensures.value c.product-at_high.ensures.value c.if-coefficient-ge0.false
     ∙ ap (multiple_of_ends c.args.coefficient) (sym c.read-a.ensures.0))
