@@ -9,50 +9,30 @@ use Rattle.book.proofs.Kept.{terms_longer, short_longer, six_longer}
 use Rattle.book.proofs.Keyed.{none_declines, coefficient_right, coefficient_low, coefficient_high, terms_len, added_is}
 use Rattle.book.proofs.kinds.Book.add_term.Goals as goal
 
-pub invariant-of-self : goal.invariant-of-self
-invariant-of-self c =
+pub invariant_of-self : goal.invariant_of-self
+invariant_of-self c =
     let b = c.args.self.now in
     let m = c.args.m in
     let new = c.args.term in
     let rules = b.rules.records in
     let e = sym c.add.ensures in
-    let fits : SFits w64 new.coefficient = search rules in (
-      b.someProperty,
-      (
-        b.fewProperties,
-        (
-          b.fewRows,
-          (
-            b.someColumn,
-            (
-              b.fewColumns,
-              (
-                b.triangle,
-                (
-                  subst (λ (r : List Rule). Short r) e (short_longer rules m new b.short c.if-self-m-ge6.false),
-                  (
-                    subst (λ (r : List Rule). SixTerms r) e (six_longer rules m new (omega arith) b.six),
-                    (
-                      subst (λ (r : List Rule). Properties b.sizes.properties r) e (terms_longer (λ t. t.property < b.sizes.properties) rules m new b.own (omega arith)),
-                      (
-                        subst (λ (r : List Rule). Reaches r) e (terms_longer (λ t. t.reach ≤ 2) rules m new b.reaches (omega arith)),
-                        (
-                          subst (λ (r : List Rule). Lows r) e (terms_longer (λ t. negsuc 99 ≤ℤ t.coefficient) rules m new b.lows (coefficient_low _ fits c.if-term-ltminus100.false)),
-                          (
-                            subst (λ (r : List Rule). Highs r) e (terms_longer (λ t. t.coefficient ≤ℤ pos 100) rules m new b.highs (coefficient_high _ fits c.if-term-gt100.false)),
-                            (b.entriesLow, (b.entriesHigh, tt)),
-                          ),
-                        ),
-                      ),
-                    ),
-                  ),
-                ),
-              ),
-            ),
-          ),
-        ),
-      ),
-    )
+    let fits : SFits w64 new.coefficient = search rules in
+    record {
+      someProperty = b.someProperty;
+      fewProperties = b.fewProperties;
+      fewRows = b.fewRows;
+      someColumn = b.someColumn;
+      fewColumns = b.fewColumns;
+      triangle = b.triangle;
+      short = subst (λ (r : List Rule). Short r) e (short_longer rules m new b.short c.if-self-m-ge6.false);
+      six = subst (λ (r : List Rule). SixTerms r) e (six_longer rules m new (omega arith) b.six);
+      own = subst (λ (r : List Rule). Properties b.sizes.properties r) e (terms_longer (λ t. t.property < b.sizes.properties) rules m new b.own (omega arith));
+      reaches = subst (λ (r : List Rule). Reaches r) e (terms_longer (λ t. t.reach ≤ 2) rules m new b.reaches (omega arith));
+      lows = subst (λ (r : List Rule). Lows r) e (terms_longer (λ t. negsuc 99 ≤ℤ t.coefficient) rules m new b.lows (coefficient_low _ fits c.if-term-ltminus100.false));
+      highs = subst (λ (r : List Rule). Highs r) e (terms_longer (λ t. t.coefficient ≤ℤ pos 100) rules m new b.highs (coefficient_high _ fits c.if-term-gt100.false));
+      entriesLow = b.entriesLow;
+      entriesHigh = b.entriesHigh;
+    }
 
 pub returns : goal.returns
 returns c =
@@ -63,7 +43,7 @@ returns c =
     let fits : SFits w64 new.coefficient = search rules in
     let six = b.six m (omega arith) in
     let room : (rule_at rules m).len < length (rule_at rules m).terms = omega arith in
-    let here : m < length rules = search rules in
+    let here : m < length b.rules.records = omega arith in
     let few : length (terms_of (rule_at rules m)) < 6 = subst (λ n. n < 6) (sym (terms_len (rule_at rules m) (omega arith))) c.if-self-m-ge6.false in (
       none_declines (at_place m 0 0) (term_tests (book_of b) m new) (
         lt-leb _ _ (omega arith),

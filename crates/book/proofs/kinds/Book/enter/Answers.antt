@@ -12,50 +12,27 @@ bounds-self-at c =
     let b = c.args.self.now in
     place_lt b.sizes.properties b.sizes.rows b.sizes.columns c.args.m c.args.i c.args.k b.fewProperties b.fewRows b.fewColumns (omega arith) (omega arith) (omega arith)
 
-pub invariant-of-self : goal.invariant-of-self
-invariant-of-self c =
+pub invariant_of-self : goal.invariant_of-self
+invariant_of-self c =
     let b = c.args.self.now in
     let x = c.args.amount in
-    let e = entry_read x (omega (arith, ints)) (omega (arith, ints)) in (
-      b.someProperty,
-      (
-        b.fewProperties,
-        (
-          b.fewRows,
-          (
-            b.someColumn,
-            (
-              b.fewColumns,
-              (
-                b.triangle,
-                (
-                  b.short,
-                  (
-                    b.six,
-                    (
-                      b.own,
-                      (
-                        b.reaches,
-                        (
-                          b.lows,
-                          (
-                            b.highs,
-                            (
-                              (λ j. set_all (λ z. negsuc 999999999 ≤ℤ z) b.amounts _ _ (pos 0) (rw e (omega (arith, ints))) j (b.entriesLow j)),
-                              ((λ j. set_all (λ z. z ≤ℤ pos 1000000000) b.amounts _ _ (pos 0) (rw e (omega (arith, ints))) j (b.entriesHigh j)), tt),
-                            ),
-                          ),
-                        ),
-                      ),
-                    ),
-                  ),
-                ),
-              ),
-            ),
-          ),
-        ),
-      ),
-    )
+    let e = entry_read x (omega (arith, ints)) (omega (arith, ints)) in
+    record {
+      someProperty = b.someProperty;
+      fewProperties = b.fewProperties;
+      fewRows = b.fewRows;
+      someColumn = b.someColumn;
+      fewColumns = b.fewColumns;
+      triangle = b.triangle;
+      short = b.short;
+      six = b.six;
+      own = b.own;
+      reaches = b.reaches;
+      lows = b.lows;
+      highs = b.highs;
+      entriesLow = λ j. set_all (λ z. negsuc 999999999 ≤ℤ z) b.amounts _ _ (pos 0) (rw e (omega (arith, ints))) j (b.entriesLow j);
+      entriesHigh = λ j. set_all (λ z. z ≤ℤ pos 1000000000) b.amounts _ _ (pos 0) (rw e (omega (arith, ints))) j (b.entriesHigh j);
+    }
 
 pub returns : goal.returns
 returns c =

@@ -7,49 +7,26 @@ use Rattle.book.proofs.Kept.{opened_terms, opened_short, opened_six, zeros}
 use Rattle.book.proofs.Keyed.{opened_is}
 use Rattle.book.proofs.kinds.Book.open.Goals as goal
 
-pub invariant-of-result : goal.invariant-of-result
-invariant-of-result c =
+pub invariant_of-result : goal.invariant_of-result
+invariant_of-result c =
     let e = sym c.empty-rules.ensures in
-    let p = c.args.sizes.properties in (
-      omega arith,
-      (
-        omega arith,
-        (
-          omega arith,
-          (
-            omega arith,
-            (
-              omega arith,
-              (
-                omega arith,
-                (
-                  subst (λ (r : List Rule). Short r) e opened_short,
-                  (
-                    subst (λ (r : List Rule). SixTerms r) e opened_six,
-                    (
-                      subst (λ (r : List Rule). Properties p r) e (opened_terms (λ t. t.property < p) (omega arith)),
-                      (
-                        subst (λ (r : List Rule). Reaches r) e (opened_terms (λ t. t.reach ≤ 2) (omega arith)),
-                        (
-                          subst (λ (r : List Rule). Lows r) e (opened_terms (λ t. negsuc 99 ≤ℤ t.coefficient) (omega (arith, ints))),
-                          (
-                            subst (λ (r : List Rule). Highs r) e (opened_terms (λ t. t.coefficient ≤ℤ pos 100) (omega (arith, ints))),
-                            (
-                              (λ j. subst (λ (z : ℤ). negsuc 999999999 ≤ℤ z) (sym (zeros 768 j)) (omega (arith, ints))),
-                              ((λ j. subst (λ (z : ℤ). z ≤ℤ pos 1000000000) (sym (zeros 768 j)) (omega (arith, ints))), tt),
-                            ),
-                          ),
-                        ),
-                      ),
-                    ),
-                  ),
-                ),
-              ),
-            ),
-          ),
-        ),
-      ),
-    )
+    let p = c.args.sizes.properties in
+    record {
+      someProperty = omega arith;
+      fewProperties = omega arith;
+      fewRows = omega arith;
+      someColumn = omega arith;
+      fewColumns = omega arith;
+      triangle = omega arith;
+      short = subst (λ (r : List Rule). Short r) e opened_short;
+      six = subst (λ (r : List Rule). SixTerms r) e opened_six;
+      own = subst (λ (r : List Rule). Properties p r) e (opened_terms (λ t. t.property < p) (omega arith));
+      reaches = subst (λ (r : List Rule). Reaches r) e (opened_terms (λ t. t.reach ≤ 2) (omega arith));
+      lows = subst (λ (r : List Rule). Lows r) e (opened_terms (λ t. negsuc 99 ≤ℤ t.coefficient) (omega (arith, ints)));
+      highs = subst (λ (r : List Rule). Highs r) e (opened_terms (λ t. t.coefficient ≤ℤ pos 100) (omega (arith, ints)));
+      entriesLow = λ j. subst (λ (z : ℤ). negsuc 999999999 ≤ℤ z) (sym (zeros 768 j)) (omega (arith, ints));
+      entriesHigh = λ j. subst (λ (z : ℤ). z ≤ℤ pos 1000000000) (sym (zeros 768 j)) (omega (arith, ints));
+    }
 
 pub returns : goal.returns
 returns c = (search rules, ap (book_from c.args.sizes (replicate 768 (pos 0))) c.empty-rules.ensures ∙ opened_is c.args.sizes)
