@@ -6,14 +6,14 @@ use Rattle.sources.specs.Estimates.{totals_through, unless_cause}
 use Rattle.sources.proofs.Rows.{row_passed, row_stops, rows_done}
 use Rattle.sources.proofs.estimated.all_rows.Goals as goal
 
-pub returns-in-err-so-far : goal.returns-in-err-so-far
-returns-in-err-so-far c =
+pub returns-in_err-so_far : goal.returns-in_err-so_far
+returns-in_err-so_far c =
     let b = book_of c.args.book.now in
-    let p = err_from_is_err_and c.from-residual.result c.from-residual.ensures.1 in
+    let p = err_from_is_err_and c.from_residual.result c.from_residual.ensures.1 in
     record {
       value = rw (p.1, p.2)
           (row_stops b c.args.m c.args.k c.loop-i.i (seen b c.args.k) (rows_cause b c.args.m c.args.k) c.loop-i.invariant.2 c.loop-i-test.true
-          c.in-err-so-far.field-0.0 c.in-err-so-far.ensures.value (totals_through b c.args.m c.args.k (seen b c.args.k)));
+          c.in_err-so_far.field-0.0 c.in_err-so_far.ensures.value (totals_through b c.args.m c.args.k (seen b c.args.k)));
       kept = rw p.1 tt;
     }
 
@@ -21,8 +21,8 @@ pub loop-i-preserved : goal.loop-i-preserved
 loop-i-preserved c =
     let b = book_of c.args.book.now in
     let p = row_passed b c.args.m c.args.k c.loop-i.i (seen b c.args.k) (rows_cause b c.args.m c.args.k) c.loop-i.invariant.2 c.loop-i-test.true
-    c.in-ok-so-far.so_far c.in-ok-so-far.ensures.value in
-    (p.0, c.in-ok-so-far.ensures.kept, p.1)
+    c.in_ok-so_far.so_far c.in_ok-so_far.ensures.value in
+    (p.0, c.in_ok-so_far.ensures.kept, p.1)
 
 pub returns : goal.returns
 returns c =

@@ -10,21 +10,21 @@ use Rattle.sources.proofs.Rows.{amount_back, zero_back}
 use Rattle.sources.proofs.Answering.{within_open, caused_answer, rows_answer, quotient_zero, quotient_ratio, above_zero, totals_known}
 use Rattle.sources.proofs.estimated.EstimatedFactorSource.factor.Goals as goal
 
-pub returns-in-err-asked-within : goal.returns-in-err-asked-within
-returns-in-err-asked-within g c =
-    let p = err_from_is_err_and c.from-residual.result c.from-residual.ensures.1 in
-    rw (p.1, p.2) (sym (c.in-err-asked-within.ensures g.F.ProjectingForm.form (unless_caused (rows_cause (book_of c.args.book.now) c.args.m c.args.k) (estimate (book_of c.args.book.now) c.args.m c.args.k))))
+pub returns-in_err-asked_within : goal.returns-in_err-asked_within
+returns-in_err-asked_within g c =
+    let p = err_from_is_err_and c.from_residual.result c.from_residual.ensures.1 in
+    rw (p.1, p.2) (sym (c.in_err-asked_within.ensures g.F.ProjectingForm.form (unless_caused (rows_cause (book_of c.args.book.now) c.args.m c.args.k) (estimate (book_of c.args.book.now) c.args.m c.args.k))))
 
-pub returns-in-err-totals : goal.returns-in-err-totals
-returns-in-err-totals g c =
+pub returns-in_err-totals : goal.returns-in_err-totals
+returns-in_err-totals g c =
     let b = book_of c.args.book.now in
     let m = c.args.m in
     let k = c.args.k in
     let F = g.F.ProjectingForm.form in
-    let p = err_from_is_err_and c.from-residual-in-err-totals.result c.from-residual-in-err-totals.ensures.1 in
+    let p = err_from_is_err_and c.from_residual-in_err-totals.result c.from_residual-in_err-totals.ensures.1 in
     rw (p.1, p.2)
-    (caused_answer g.F.ProjectingForm.fends F m k (rows_cause b m k) _ (estimate b m k) _ c.in-err-totals.ensures.value
-    ∙ sym (ap (answer_in F m k) (within_open b m k (unless_caused (rows_cause b m k) (estimate b m k)) c.in-ok-asked-within.ensures)))
+    (caused_answer g.F.ProjectingForm.fends F m k (rows_cause b m k) _ (estimate b m k) _ c.in_err-totals.ensures.value
+    ∙ sym (ap (answer_in F m k) (within_open b m k (unless_caused (rows_cause b m k) (estimate b m k)) c.in_ok-asked_within.ensures)))
 
 pub returns-then-totals-eq0 : goal.returns-then-totals-eq0
 returns-then-totals-eq0 g c =
@@ -32,12 +32,12 @@ returns-then-totals-eq0 g c =
     let m = c.args.m in
     let k = c.args.k in
     let F = g.F.ProjectingForm.form in
-    let t = c.in-ok-totals.totals in
-    let z = zero_back t.exposures c.in-ok-totals.ensures.kept c.if-totals-eq0.true in
+    let t = c.in_ok-totals.totals in
+    let z = zero_back t.exposures c.in_ok-totals.ensures.kept c.if-totals-eq0.true in
     ap (told g.F.ProjectingForm.fends) c.at.ensures
-    ∙ rows_answer g.F.ProjectingForm.fends F m k (rows_cause b m k) (totals_through b m k (seen b k)) t c.in-ok-totals.ensures.value c.exact.result
+    ∙ rows_answer g.F.ProjectingForm.fends F m k (rows_cause b m k) (totals_through b m k (seen b k)) t c.in_ok-totals.ensures.value c.exact.result
     (c.exact.ensures ∙ ap factor_ceiled (quotient_zero F t.amounts t.exposures z))
-    ∙ sym (ap (answer_in F m k) (within_open b m k (unless_caused (rows_cause b m k) (estimate b m k)) c.in-ok-asked-within.ensures))
+    ∙ sym (ap (answer_in F m k) (within_open b m k (unless_caused (rows_cause b m k) (estimate b m k)) c.in_ok-asked_within.ensures))
 
 pub ratio-requires : goal.ratio-requires
 ratio-requires g c =
@@ -45,8 +45,8 @@ ratio-requires g c =
     let b = book_of s in
     let m = c.args.m in
     let k = c.args.k in
-    let t = c.in-ok-totals.totals in
-    let h = c.in-ok-totals.ensures in
+    let t = c.in_ok-totals.totals in
+    let h = c.in_ok-totals.ensures in
     let few : seen b k ≤ 16 = omega (arith, s.fewRows) in
     let known = totals_known s m k (seen b k) (rows_cause b m k) t few h.value in
     let above = above_zero t.exposures known.1 (λ e. c.if-totals-eq0.false (ap (of_z w64) e)) in
@@ -62,8 +62,8 @@ returns g c =
     let m = c.args.m in
     let k = c.args.k in
     let F = g.F.ProjectingForm.form in
-    let t = c.in-ok-totals.totals in
-    let h = c.in-ok-totals.ensures in
+    let t = c.in_ok-totals.totals in
+    let h = c.in_ok-totals.ensures in
     let few : seen b k ≤ 16 = omega (arith, s.fewRows) in
     let known = totals_known s m k (seen b k) (rows_cause b m k) t few h.value in
     let above = above_zero t.exposures known.1 (λ e. c.if-totals-eq0.false (ap (of_z w64) e)) in
@@ -73,4 +73,4 @@ returns g c =
     ap (told g.F.ProjectingForm.fends) c.at-2.ensures
     ∙ rows_answer g.F.ProjectingForm.fends F m k (rows_cause b m k) (totals_through b m k (seen b k)) t h.value c.ratio.result
     (r ∙ ap factor_ceiled (quotient_ratio F t.amounts t.exposures above))
-    ∙ sym (ap (answer_in F m k) (within_open b m k (unless_caused (rows_cause b m k) (estimate b m k)) c.in-ok-asked-within.ensures))
+    ∙ sym (ap (answer_in F m k) (within_open b m k (unless_caused (rows_cause b m k) (estimate b m k)) c.in_ok-asked_within.ensures))
