@@ -23,11 +23,11 @@ returns g c =
     let end : c.loop-j.j ≡ c.min-room.result = omega arith in
     let calls = c.args.calls.now in
     let after = c.loop-j.outcomes in (
-      c.in-ok-draft.ensures.0,
+      c.in_ok-draft.ensures.0,
       record {
         count = c.min-room.ensures;
         line = subst (λ (n : ℕ). LineStands R (opening c.args.sizes) (take n calls) (take n after)) end
-            (subst (λ (s : Paper). LineStands R s (take c.loop-j.j calls) (take c.loop-j.j after)) (ap begun c.in-ok-draft.ensures.1) c.loop-j.invariant.1);
+            (subst (λ (s : Paper). LineStands R s (take c.loop-j.j calls) (take c.loop-j.j after)) (ap begun c.in_ok-draft.ensures.1) c.loop-j.invariant.1);
         rest = subst (λ (n : ℕ). drop n after ≡ drop n c.args.outcomes.now) end c.loop-j.invariant.2;
       },
     )

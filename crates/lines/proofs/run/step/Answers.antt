@@ -6,5 +6,5 @@ pub returns-in-InDraft : goal.returns-in-InDraft
 returns-in-InDraft g c =
     record {
       next = search rules;
-      stands = rw c.in-InDraft.is (c.draft-step.ensures.stands (reading (g.S.FactorSource.means c.args.source.now) (g.S.FactorSource.depth c.args.source.now) g.F.ProjectingForm.form));
+      stands = rw c.in-InDraft.is (c.draft_step.ensures.stands (reading (g.S.FactorSource.means c.args.source.now) (g.S.FactorSource.depth c.args.source.now) g.F.ProjectingForm.form));
     }
