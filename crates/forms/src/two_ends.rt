@@ -1,4 +1,4 @@
-// The two_ends form: both ends are kept, the least exact result rounded down and the greatest up. Its slack is 2.
+// The two-ends form: both ends are kept, the least exact result rounded down and the greatest up. Its slack is 2.
 ghost use Rattle.std.specs.Prelude.{◌≡◌, ◌≤ℤ◌};
 ghost use Rattle.paper.specs.Numbers.{both, Amount, Factor};
 ghost use Rattle.paper.specs.EndsForm.{ends_form};

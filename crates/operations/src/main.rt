@@ -13,7 +13,7 @@ const USAGE: &str =
   FORM whole H             an exact amount, in hundredths
   FORM plus A A' B B'      the sum of two amounts
   FORM times C A A'        C times an amount, C from -100 to 100
-  FORM exact F             an exact factor, in in_ten_millionths
+  FORM exact F             an exact factor, in ten-millionths
   FORM ratio P Q           the factor P / Q of two exact amounts, Q above 0
   FORM mix W F F' G G'     ((1000 - W) F + W G) / 1000 of two factors, W from 0 to 1000
   FORM apply F F' A A'     a factor applied to an amount
