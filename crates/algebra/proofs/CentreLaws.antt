@@ -1,12 +1,12 @@
 -- The centre form's application encloses, and is narrow.
-use Rattle.std.proofs.Common.{◌≡◌, ℕ, zero, suc, ◌+◌, ◌*◌, ◌/◌, ◌%◌, ◌<◌, ◌≤◌, max, Bool, true, false, cond, List, [], ◌∷◌, ℤ, pos, negsuc, ◌+ℤ◌, ◌-ℤ◌, ◌*ℤ◌, neg_ℤ, nat_abs, ◌≤ℤ◌, ◌<ℤ◌, sym, refl, ap, ◌∙◌, subst, arith, lit<}
+use Rattle.std.proofs.Common.{◌≡◌, ℕ, ◌*◌, ◌<◌, max, Bool, true, false, cond, [], ◌∷◌, ℤ, pos, ◌+ℤ◌, ◌-ℤ◌, ◌*ℤ◌, neg_ℤ, nat_abs, ◌≤ℤ◌, ◌<ℤ◌, refl, subst, arith, lit<}
 use borrow.Author.Differences.{ints}
 use lib.Signed.{≤ℤ_refl, le_z}
-use Rattle.algebra.proofs.Ints.{nn, 0≤*, ≤abs, -abs≤, *ℤ_mono, ≤ℤ_trans}
+use Rattle.algebra.proofs.Ints.{nn, 0≤*, ≤abs, -abs≤, ≤ℤ_trans}
 use Rattle.algebra.proofs.Cert.{within}
-use Rattle.algebra.proofs.Quote.{quotes, q*, ring!, cert, 0≤gap, 0≤+}
+use Rattle.algebra.proofs.Quote.{quotes, q*, cert, 0≤gap, 0≤+}
 use Rattle.algebra.proofs.Division.{floor_le, floor_lt, ceil_ge, ceil_lt, floor_greatest}
-use Rattle.algebra.specs.Interval.{Ends, Frac, Between, floor_div, ceil_div, scale, size, width}
+use Rattle.algebra.specs.Interval.{floor_div, ceil_div, scale, size, width}
 use Rattle.algebra.specs.Centre.{Centre, ends_of_centre, exact_radius, rest, apply_c, EnclosesC, NarrowC}
 
 weak : {a b : ℤ} → a <ℤ b → a ≤ℤ b

@@ -1,13 +1,12 @@
 -- A stored book that is opened, entered into or given a term stands for the paper's book so changed.
-use Rattle.std.proofs.Common.{◌≡◌, ℕ, zero, suc, ◌+◌, ◌*◌, ◌<◌, ◌≤◌, Bool, true, false, cond, ◌&&◌, ◌||◌, eqb, ltb, ◌≢◌, ◌⊎◌, List, [], ◌∷◌, ◌++◌, map, length, get_or, take, set, replicate, ℤ, pos, negsuc, ◌≤ℤ◌, Some, None, sym, refl, ap, ◌∙◌, inl, inr, ⊎_elim, arith, get_or-set_other, get_or-set_same, w64, SFits, to_z, of_z}
+use Rattle.std.proofs.Common.{◌≡◌, ℕ, zero, suc, ◌<◌, ◌≤◌, true, false, cond, ◌&&◌, ◌||◌, eqb, ◌≢◌, List, [], ◌∷◌, ◌++◌, map, length, get_or, take, set, replicate, ℤ, pos, negsuc, ◌≤ℤ◌, Some, None, sym, refl, ap, ◌∙◌, ⊎_elim, arith, get_or-set_other, get_or-set_same, w64, SFits, to_z, of_z}
 use mathlib.Core.Path.{fun_ext}
 use lib.Signed.{lt_z, le_z}
 use Rattle.std.proofs.lemmas.List.{take_more_set, map_push, length-map, length-take}
 use Rattle.std.proofs.lemmas.Bool.{ltb-true, eqb-true, eq-eqb, ne_eqb, lt-ltb, cases_Bool, cases_eq, and_parts, and_from, and_right, lt-leb, or_from}
 use Rattle.std.proofs.lemmas.Int.{ints, to_z-of_z}
 use Rattle.paper.specs.Laws.{Each}
-use Rattle.paper.specs.Books as paper
-use Rattle.paper.specs.Books.{Cell, cell_at, same_cell, opened, with_entry, with_last_term}
+use Rattle.paper.specs.Books.{Cell, same_cell, opened, with_entry, with_last_term}
 use Rattle.book.specs.declared.rules.Rule.{Rule}
 use Rattle.book.specs.declared.rules.Term.{Term}
 use Rattle.book.specs.declared.kinds.Sizes.{Sizes}
@@ -17,7 +16,7 @@ use Rattle.book.specs.Grounds.{Test, first_fault, fault_at}
 use Rattle.book.specs.Limits.{no_rule, no_rules, rule_at, longer}
 use Rattle.book.specs.Stored.{place_of, in_sizes, term_of, terms_of, amounts_of, book_from}
 use Rattle.book.proofs.Places.{parts_same}
-use Rattle.book.proofs.Kept.{opened_empty, zeros}
+use Rattle.book.proofs.Kept.{zeros}
 
 -- a cell within the sizes
 pub record Within (s : Sizes) (c : Cell) : Type 0 where

@@ -6,7 +6,7 @@ use Rattle.algebra.proofs.Ints.{nn, 0≤*, *ℤ_mono}
 use Rattle.algebra.proofs.Quote.{quotes, cert, 0≤gap}
 use Rattle.algebra.proofs.Division.{floor_le, ceil_ge, cancel_lt}
 use Rattle.algebra.specs.Interval.{Ends, floor_div, ceil_div, least, greatest, apply}
-use Rattle.algebra.specs.Sizes.{FactorSize, AmountSize}
+use Rattle.algebra.specs.Sizes.{FactorSize}
 use Rattle.paper.proofs.EndsForm.{ends_lawful}
 use Rattle.paper.specs.EndsForm.{ends_mix}
 use Rattle.paper.specs.Numbers.{Amount, Factor, both}

@@ -1,5 +1,5 @@
 -- What the stored numbers of a form mean. Numbers that are out of order or past the ceiling count as zero.
-use Rattle.std.specs.Prelude.{Bool, cond, ◌&&◌, ℤ, pos, int_le}
+use Rattle.std.specs.Prelude.{cond, ◌&&◌, ℤ, pos, int_le}
 use Rattle.algebra.specs.Interval.{Ends}
 use Rattle.paper.specs.Numbers.{both, point, inside, factor_inside}
 use Rattle.forms.specs.declared.two_ends.TwoEnds.{TwoEnds}

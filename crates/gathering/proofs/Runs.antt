@@ -1,13 +1,13 @@
 -- One more step of a sum.
-use Rattle.std.proofs.Common.{◌≡◌, ℕ, zero, suc, ◌+◌, ◌-◌, ◌*◌, ◌<◌, ◌≤◌, Bool, true, false, cond, ltb, List, [], ◌∷◌, ◌++◌, map, length, get_or, take, drop, pos, Ok, Err, Result, sym, refl, ap, ◌∙◌, zero-add, add-one, arith}
-use Rattle.std.proofs.lemmas.List.{at_drop_more, at_drop_all, take_more, map_push, get_or-map, get_or-drop, length-drop, length-map, length-take, take-map, drop-map, get_or-take}
+use Rattle.std.proofs.Common.{◌≡◌, ℕ, zero, suc, ◌+◌, ◌-◌, ◌*◌, ◌<◌, ◌≤◌, true, false, cond, ltb, List, [], ◌∷◌, ◌++◌, map, length, get_or, take, drop, pos, Ok, Err, Result, sym, refl, ap, ◌∙◌, zero-add, add-one, arith}
+use Rattle.std.proofs.lemmas.List.{at_drop_more, at_drop_all, take_more, get_or-map, get_or-drop, length-drop, length-map, length-take, take-map, drop-map, get_or-take}
 use Rattle.forms.specs.declared.FormFault.{FormFault}
 use Rattle.algebra.specs.Interval.{Ends}
 use Rattle.paper.specs.Numbers.{point}
-use Rattle.paper.specs.Sums.{Sum, nothing, read, join, multiple, sum_of_ends, multiple_of_ends}
+use Rattle.paper.specs.Sums.{Sum, nothing, join, multiple, sum_of_ends, multiple_of_ends}
 use Rattle.paper.specs.Books as paper
 use Rattle.paper.specs.Books.{Cell, cell_at, total_of, with_term, with_terms, reading}
-use Rattle.forms.specs.Told.{next, ceiled, evaluated, told}
+use Rattle.forms.specs.Told.{next, ceiled, evaluated}
 use Rattle.book.specs.declared.kinds.Sizes.{Sizes}
 use Rattle.book.specs.declared.rules.Rule.{Rule}
 use Rattle.book.specs.declared.rules.Term.{Term}

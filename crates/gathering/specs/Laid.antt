@@ -1,5 +1,5 @@
 -- How a slice of amounts holds the cells of a book, and what a stored rule asks of it.
-use Rattle.std.specs.Prelude.{ℕ, ◌+◌, ◌-◌, ◌*◌, ◌<◌, ◌≤◌, cond, List, [], ◌∷◌, pos, negsuc, ◌≤ℤ◌, Ok, Err, Result, nat_lt, slice_index_or}
+use Rattle.std.specs.Prelude.{ℕ, ◌-◌, ◌<◌, ◌≤◌, cond, List, [], ◌∷◌, pos, negsuc, ◌≤ℤ◌, Ok, Result, nat_lt, slice_index_or}
 use Rattle.algebra.specs.Interval.{Ends}
 use Rattle.paper.specs.Numbers.{point}
 use Rattle.paper.specs.Sums.{sum_of_ends, multiple_of_ends}

@@ -1,19 +1,19 @@
 -- What the laws of sources and forms give for a factor question: answers cover, and ceiling refusals are excused.
-use Rattle.std.proofs.Common.{◌≡◌, ℕ, ◌+◌, ◌*◌, ◌<◌, Bool, true, false, cond, ◌⊎◌, List, [], ◌∷◌, ◌++◌, map, ℤ, nat_abs, Some, None, Ok, Err, Option, Result, sym, refl, ap, ◌∙◌, subst, inl, inr, ⊎_elim, arith}
+use Rattle.std.proofs.Common.{◌≡◌, ℕ, ◌+◌, ◌*◌, ◌<◌, true, false, cond, List, [], ◌∷◌, ◌++◌, map, nat_abs, Some, None, Ok, Err, Option, Result, sym, refl, ap, ◌∙◌, subst, inl, inr, ⊎_elim, arith}
 use Rattle.std.proofs.lemmas.Bool.{cases_Bool}
 use Rattle.algebra.specs.Interval.{Ends}
-use Rattle.paper.specs.Numbers.{whole, in_ten_millionths, factor_inside, factor_ceiling, amount_ceiling, Covers, Passes}
+use Rattle.paper.specs.Numbers.{in_ten_millionths, factor_inside, factor_ceiling, amount_ceiling, Covers}
 use Rattle.paper.specs.Forms.{Form, Lawful}
 use Rattle.paper.specs.Books.{Book}
-use Rattle.paper.specs.Sources.{Cause, no_property, no_column, negative_exposure, amount_past, Step, Meaning, factor, cause, steps_in, fraction_of}
+use Rattle.paper.specs.Sources.{Cause, no_property, no_column, negative_exposure, amount_past, Step, Meaning, factor, cause, fraction_of}
 use Rattle.paper.specs.Laws.{Answered, Each, RightCause, Sound}
 use Rattle.paper.proofs.Covering.{passing, factor_past}
 use Rattle.book.specs.declared.faults.Fault.{Fault}
-use Rattle.book.specs.declared.faults.Ground.TheVariants.{FactorCeiling, AmountCeiling}
+use Rattle.book.specs.declared.faults.Ground.TheVariants.{FactorCeiling}
 use Rattle.book.specs.declared.faults.Origin.TheVariants.{OfForm}
-use Rattle.book.specs.Grounds.{at_place, fault_at, number}
-use Rattle.sources.specs.Asked.{answer_in, answer_then, unless_past, first_past, cause_fault, counted}
-use Rattle.lines.specs.Line.{PaperStep, Reading, factor_step, exact_step, cause_steps, meaning_steps, factor_allowance, SomeOf, Passing, CeilingExcused}
+use Rattle.book.specs.Grounds.{at_place, fault_at}
+use Rattle.sources.specs.Asked.{answer_in, unless_past, first_past, cause_fault, counted}
+use Rattle.lines.specs.Line.{PaperStep, Reading, factor_step, cause_steps, meaning_steps, factor_allowance, SomeOf, Passing, CeilingExcused}
 
 -- ---- lists of steps
 last_of : {A : Type 0} (P : A → Type 0) (xs : List A) (x : A) → Each P (xs ++ (x ∷ [])) → P x

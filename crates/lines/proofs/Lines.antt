@@ -1,5 +1,5 @@
 -- One more call at the end of a line.
-use Rattle.std.proofs.Common.{◌≡◌, ℕ, ◌+◌, ◌<◌, ◌≤◌, List, [], ◌∷◌, ◌++◌, length, get_or, take, drop, set, sym, refl, ap, ◌∙◌, subst, arith}
+use Rattle.std.proofs.Common.{◌≡◌, ℕ, ◌+◌, ◌<◌, List, [], ◌∷◌, ◌++◌, length, get_or, take, drop, set, sym, refl, ap, ◌∙◌, subst, arith}
 use Rattle.std.proofs.lemmas.List.{take_more, drop-drop, drop-set-lt}
 use Rattle.lines.specs.Line.{Paper, Reading, Stands, LineStands, paper_after, paper_next, accepted}
 use Rattle.lines.specs.declared.calls.Call.{Call}

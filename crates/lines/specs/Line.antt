@@ -1,10 +1,10 @@
 -- The paper run beside a line of calls, and what every outcome owes to it.
-use Rattle.std.specs.Prelude.{◌≡◌, ℕ, ◌*◌, min, Bool, true, false, cond, ◌⊎◌, List, [], ◌∷◌, ◌++◌, map, length, take, drop, ℤ, Some, None, Ok, Err, Option}
+use Rattle.std.specs.Prelude.{◌≡◌, ℕ, ◌*◌, min, Bool, true, false, ◌⊎◌, List, [], ◌∷◌, ◌++◌, map, length, take, drop, ℤ, Some, None, Ok, Err}
 use Rattle.algebra.specs.Interval.{Ends, Frac}
 use Rattle.paper.specs.Numbers.{both, whole, in_ten_millionths, Covers, Passes, amount_ceiling, factor_ceiling}
 use Rattle.paper.specs.Forms.{Form}
 use Rattle.paper.specs.Books.{Book, cell_at, opened, with_entry, with_last_term}
-use Rattle.paper.specs.Sources.{Cause, no_property, no_column, negative_exposure, amount_past, Step, Meaning, factor, cause, steps_in, fraction_of}
+use Rattle.paper.specs.Sources.{Cause, no_property, no_column, negative_exposure, amount_past, Step, Meaning, factor, cause, fraction_of}
 use Rattle.book.specs.declared.faults.Fault.{Fault}
 use Rattle.book.specs.declared.faults.Ground.{Ground}
 use Rattle.book.specs.declared.faults.Ground.TheVariants.{AmountCeiling, FactorCeiling}

@@ -1,14 +1,14 @@
 -- The estimated source: its steps are answered in every form, and its causes are right.
-use Rattle.std.proofs.Common.{◌≡◌, ℕ, zero, suc, ◌+◌, ◌*◌, ◌<◌, ◌≤◌, Bool, true, false, cond, T, ltb, ◌⊎◌, List, [], ◌∷◌, ℤ, pos, negsuc, ◌-ℤ◌, nat_abs, ◌≤ℤ◌, Some, None, Option, refl, inl, inr, ⊎_elim, suc-le-suc, zero-le, arith, ltb→lt}
+use Rattle.std.proofs.Common.{◌≡◌, ℕ, zero, suc, ◌+◌, ◌*◌, ◌<◌, ◌≤◌, Bool, true, false, cond, T, ltb, List, [], ◌∷◌, ℤ, pos, negsuc, ◌-ℤ◌, nat_abs, ◌≤ℤ◌, Some, None, Option, refl, ⊎_elim, suc-le-suc, zero-le, arith, ltb→lt}
 use borrow.Author.Differences.{ints}
 use lib.Signed.{≤ℤ_refl, lt_z}
 use Rattle.std.proofs.lemmas.Bool.{cases_lt}
-use Rattle.algebra.specs.Interval.{Ends, width}
+use Rattle.algebra.specs.Interval.{width}
 use Rattle.paper.specs.Numbers.{over, amount_ceiling}
 use Rattle.paper.specs.Sums.{Sum, exact_of, steps_of}
 use Rattle.paper.specs.Forms.{Form, Lawful}
 use Rattle.paper.specs.Books.{Book, Cell, exposure}
-use Rattle.paper.specs.Sources.{Cause, no_property, no_column, negative_exposure, amount_past, Meaning, factor, cause, past, step_past, amount_cause, first_of, or_else, rising, row_cause, gathering_past, exact_exposure, exposures_through, next_amounts_through, seen, quotient, quotient_ends, quotient_step, unless_caused, within, estimate, estimated}
+use Rattle.paper.specs.Sources.{Cause, negative_exposure, amount_past, Meaning, past, step_past, amount_cause, first_of, or_else, rising, row_cause, gathering_past, exact_exposure, exposures_through, next_amounts_through, seen, quotient, quotient_ends, quotient_step, unless_caused, within, estimated}
 use Rattle.paper.specs.Laws.{Answered, AskedWithin, RightCause, Sound}
 
 loosen : (w : ℤ) (a b : ℕ) → a ≤ b → w ≤ℤ pos a → w ≤ℤ pos b

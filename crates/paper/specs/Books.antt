@@ -1,5 +1,5 @@
 -- A book: its sizes, the amounts observed and the rules; the exposures that the rules mean; and how accepted calls change it.
-use Rattle.std.specs.Prelude.{ℕ, zero, suc, ◌+◌, ◌-◌, Bool, false, cond, ◌&&◌, List, [], ◌∷◌, ◌++◌, ℤ, pos, ◌==◌, nat_lt}
+use Rattle.std.specs.Prelude.{ℕ, zero, suc, ◌+◌, ◌-◌, Bool, cond, ◌&&◌, List, [], ◌∷◌, ◌++◌, ℤ, pos, ◌==◌, nat_lt}
 use Rattle.paper.specs.Sums.{Sum, nothing, read, join, multiple}
 
 pub record Cell : Type 0 where

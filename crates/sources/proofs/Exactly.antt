@@ -1,5 +1,5 @@
 -- Exposures of observed cells gathered in whole numbers: exactly the paper's amount, or the first step past the ceiling.
-use Rattle.std.proofs.Common.{◌≡◌, ℕ, zero, suc, ◌+◌, ◌-◌, ◌*◌, ◌<◌, ◌≤◌, Bool, true, false, cond, ltb, ◌⊎◌, List, [], ◌∷◌, ◌++◌, map, length, get_or, take, ℤ, pos, negsuc, ◌+ℤ◌, ◌*ℤ◌, nat_abs, ◌≤ℤ◌, Some, None, Ok, Err, Option, Result, sym, refl, ap, ◌∙◌, ⊎_elim, arith}
+use Rattle.std.proofs.Common.{◌≡◌, ℕ, zero, suc, ◌+◌, ◌-◌, ◌<◌, ◌≤◌, true, false, cond, ltb, List, [], ◌∷◌, ◌++◌, map, length, get_or, take, ℤ, pos, negsuc, ◌+ℤ◌, ◌*ℤ◌, Some, None, Ok, Err, Option, Result, sym, refl, ap, ◌∙◌, ⊎_elim, arith}
 use Rattle.std.proofs.lemmas.Int.{ints}
 use Rattle.std.proofs.lemmas.Bool.{cases_lt, cases_Bool}
 use Rattle.std.proofs.lemmas.List.{get_or-map}
@@ -18,7 +18,7 @@ use Rattle.book.specs.declared.kinds.Sizes.{Sizes}
 use Rattle.book.specs.declared.rules.Term.{Term}
 use Rattle.book.specs.declared.rules.Rule.{Rule}
 use Rattle.book.specs.Limits.{blank}
-use Rattle.book.specs.Stored.{place_of, in_sizes, cells, term_of, terms_of, amounts_of}
+use Rattle.book.specs.Stored.{place_of, cells, term_of, terms_of, amounts_of}
 use Rattle.book.proofs.Keyed.{Within, within_true}
 use Rattle.book.proofs.Places.{place_in}
 use Rattle.gathering.specs.Laid.{on_sheet}

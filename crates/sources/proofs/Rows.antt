@@ -1,5 +1,5 @@
 -- A row of an estimate, from what the calls of its function answered.
-use Rattle.std.proofs.Common.{◌≡◌, ℕ, zero, suc, ◌+◌, ◌-◌, ◌*◌, ◌<◌, ◌≤◌, Bool, true, false, cond, ◌⊎◌, List, [], ◌∷◌, map, length, get_or, ℤ, pos, negsuc, ◌+ℤ◌, nat_abs, ◌≤ℤ◌, ◌<ℤ◌, Some, None, Ok, Err, Option, Result, sym, refl, ap, ◌∙◌, subst, ⊎_elim, add-one, arith, w64, SFits, to_z, of_z}
+use Rattle.std.proofs.Common.{◌≡◌, ℕ, zero, suc, ◌+◌, ◌-◌, ◌*◌, ◌<◌, ◌≤◌, Bool, true, false, cond, [], ◌∷◌, map, length, get_or, ℤ, pos, negsuc, ◌+ℤ◌, nat_abs, ◌≤ℤ◌, Some, None, Ok, Err, Option, Result, sym, refl, ap, ◌∙◌, subst, ⊎_elim, add-one, arith, w64, SFits, to_z, of_z}
 use lib.Signed.{lt_z}
 use Rattle.std.proofs.lemmas.Int.{ints, to_z-of_z}
 use Rattle.std.proofs.lemmas.Bool.{cases_Bool}
@@ -8,17 +8,16 @@ use Rattle.paper.specs.Numbers.{Amount, point, inside}
 use Rattle.paper.specs.Sums.{nothing, sum_of_ends}
 use Rattle.paper.specs.Books as paper
 use Rattle.paper.specs.Books.{Cell, cell_at, with_terms}
-use Rattle.paper.specs.Sources.{Cause, negative_exposure, amount_past, first_of, or_else, rising, past, amount_cause, gathering_past, exact_exposure, next_amount, total_where, exposures_through, next_amounts_through, row_cause}
+use Rattle.paper.specs.Sources.{Cause, negative_exposure, amount_past, first_of, or_else, rising, past, amount_cause, gathering_past, exact_exposure, next_amount, exposures_through, next_amounts_through, row_cause}
 use Rattle.forms.specs.declared.FormFault.{FormFault}
 use Rattle.forms.specs.declared.FormFault.TheVariants.{AmountCeiling}
 use Rattle.forms.specs.Told.{told, ceiled, evaluated}
 use Rattle.forms.specs.Held.{whole_ends}
 use Rattle.book.specs.declared.faults.Fault.{Fault}
-use Rattle.book.specs.declared.faults.Place.{Place}
 use Rattle.book.specs.declared.kinds.Book.{Book}
 use Rattle.book.specs.Grounds.{at_place, placed}
 use Rattle.book.specs.Limits.{rule_at}
-use Rattle.book.specs.Stored.{book_of, cells, terms_of, in_sizes, place_of}
+use Rattle.book.specs.Stored.{book_of, terms_of, in_sizes, place_of}
 use Rattle.book.proofs.Places.{cells_le}
 use Rattle.gathering.specs.Laid.{on_sheet, Laid, Fits}
 use Rattle.sources.specs.Asked.{cause_fault}

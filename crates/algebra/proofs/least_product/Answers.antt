@@ -1,4 +1,4 @@
-use Rattle.std.proofs.Common.{◌≡◌, ℤ, ◌*ℤ◌, sym, subst, w64, to_z, of_z}
+use Rattle.std.proofs.Common.{◌≡◌, ℤ, sym, subst, w64, to_z, of_z}
 use Rattle.std.proofs.lemmas.Int.{to_z-of_z}
 use Rattle.algebra.specs.Interval.{least}
 use Rattle.algebra.specs.Sizes.{Within}

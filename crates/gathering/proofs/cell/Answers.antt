@@ -1,6 +1,4 @@
-use Rattle.std.proofs.Common.{◌≡◌, ◌+◌, ◌*◌, ◌<◌, length, get_or, pos, sym, ap, ◌∙◌, arith}
-use Rattle.std.proofs.lemmas.List.{get_or-map}
-use Rattle.paper.specs.Numbers.{point}
+use Rattle.std.proofs.Common.{◌+◌, ◌*◌, ◌<◌, length, ap, arith}
 use Rattle.book.proofs.Places.{place_in}
 use Rattle.gathering.proofs.Runs.{read_ends}
 use Rattle.gathering.proofs.cell.Goals as goal

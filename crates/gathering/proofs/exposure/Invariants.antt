@@ -1,4 +1,4 @@
-use Rattle.std.proofs.Common.{◌≡◌, map, take, drop}
+use Rattle.std.proofs.Common.{◌≡◌, map, drop}
 use Rattle.paper.specs.Sums.{nothing}
 use Rattle.paper.specs.Books.{with_terms}
 use Rattle.forms.specs.Told.{evaluated}

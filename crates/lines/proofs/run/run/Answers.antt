@@ -1,7 +1,7 @@
-use Rattle.std.proofs.Common.{◌≡◌, ℕ, ◌<◌, length, take, drop, pos, sym, ap, ◌∙◌, subst, arith}
+use Rattle.std.proofs.Common.{◌≡◌, ℕ, ◌<◌, length, take, drop, pos, ap, subst, arith}
 use Rattle.std.proofs.lemmas.List.{take_more_set}
 use Rattle.paper.specs.Books.{Book}
-use Rattle.lines.specs.Line.{Paper, Reading, reading, opening, LineStands}
+use Rattle.lines.specs.Line.{Paper, reading, opening, LineStands}
 use Rattle.lines.specs.declared.calls.Call.TheVariants.{Enter}
 use Rattle.lines.specs.declared.calls.State.TheVariants.{Drafted}
 use Rattle.lines.proofs.Lines.{line_more, rest_more}

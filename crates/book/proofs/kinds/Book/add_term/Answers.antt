@@ -1,4 +1,4 @@
-use Rattle.std.proofs.Common.{◌≡◌, ◌<◌, ◌≤◌, List, length, pos, negsuc, ◌≤ℤ◌, sym, ap, ◌∙◌, subst, arith, w64, SFits, rules}
+use Rattle.std.proofs.Common.{◌<◌, ◌≤◌, List, length, pos, negsuc, ◌≤ℤ◌, sym, ap, ◌∙◌, subst, arith, w64, SFits}
 use Rattle.std.proofs.lemmas.Bool.{lt-leb, le-ltb}
 use Rattle.book.specs.declared.rules.Rule.{Rule}
 use Rattle.book.specs.Limits.{rule_at, Short, SixTerms, Properties, Reaches, Lows, Highs}

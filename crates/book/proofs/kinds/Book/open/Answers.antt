@@ -1,7 +1,7 @@
-use Rattle.std.proofs.Common.{◌≡◌, ◌<◌, ◌≤◌, List, replicate, ℤ, pos, negsuc, ◌≤ℤ◌, sym, ap, ◌∙◌, subst, arith, rules}
+use Rattle.std.proofs.Common.{◌<◌, ◌≤◌, List, replicate, ℤ, pos, negsuc, ◌≤ℤ◌, sym, ap, ◌∙◌, subst, arith, rules}
 use Rattle.std.proofs.lemmas.Int.{ints}
 use Rattle.book.specs.declared.rules.Rule.{Rule}
-use Rattle.book.specs.Limits.{no_rules, Short, SixTerms, Properties, Reaches, Lows, Highs}
+use Rattle.book.specs.Limits.{Short, SixTerms, Properties, Reaches, Lows, Highs}
 use Rattle.book.specs.Stored.{book_from}
 use Rattle.book.proofs.Kept.{opened_terms, opened_short, opened_six, zeros}
 use Rattle.book.proofs.Keyed.{opened_is}

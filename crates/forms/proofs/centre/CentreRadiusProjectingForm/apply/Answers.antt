@@ -1,4 +1,4 @@
-use Rattle.std.proofs.Common.{◌≡◌, sym, ap, ◌∙◌, subst}
+use Rattle.std.proofs.Common.{ap, ◌∙◌}
 use Rattle.forms.specs.Told.{ceiled}
 use Rattle.forms.proofs.Centring.{rounded_held, fits_within, apply_around}
 use Rattle.forms.proofs.centre.CentreRadiusProjectingForm.apply.Goals as goal

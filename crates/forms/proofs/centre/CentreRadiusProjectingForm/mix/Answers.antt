@@ -1,4 +1,4 @@
-use Rattle.std.proofs.Common.{◌≡◌, ℤ, pos, sym, ap, ◌∙◌, subst, lit≤}
+use Rattle.std.proofs.Common.{pos, ap, ◌∙◌, lit≤}
 use lib.Signed.{≤ℤ_refl}
 use Rattle.forms.specs.Told.{factor_ceiled}
 use Rattle.forms.proofs.Centring.{centre_passed, radius_passed, rounded_held, fits_within, mix_around, mix_passed}

@@ -1,4 +1,4 @@
-use Rattle.std.proofs.Common.{◌≡◌, sym, ap, ◌∙◌, subst, w64}
+use Rattle.std.proofs.Common.{ap, ◌∙◌}
 use Rattle.forms.specs.Told.{ceiled}
 use Rattle.forms.proofs.Reading.{apply_ends, apply_order}
 use Rattle.forms.proofs.two_ends.TwoEndsProjectingForm.apply.Goals as goal

@@ -1,5 +1,4 @@
-use Rattle.std.proofs.Common.{◌≡◌, sym, ap, ◌∙◌, subst, w64, rules}
-use Rattle.std.proofs.lemmas.Int.{to_z-of_z}
+use Rattle.std.proofs.Common.{ap, ◌∙◌}
 use Rattle.forms.specs.Told.{factor_ceiled}
 use Rattle.forms.proofs.Reading.{mix_ends, mix_order, factor_sizes}
 use Rattle.forms.proofs.two_ends.TwoEndsProjectingForm.mix.Goals as goal

@@ -1,4 +1,4 @@
-use Rattle.std.proofs.Common.{◌≡◌, ℤ, pos, ◌*ℤ◌, nat_abs, arith, w64, to_z, of_z}
+use Rattle.std.proofs.Common.{◌≡◌, nat_abs, w64, to_z, of_z}
 use Rattle.algebra.specs.Interval.{floor_div, ceil_div}
 use Rattle.forms.proofs.Reading.{back, above_0, ratio_order}
 use Rattle.forms.proofs.two_ends.TwoEndsProjectingForm.ratio.Goals as goal
