@@ -125,7 +125,7 @@ def main():
 
 
 def respell_line(line, turn, path):
-    """Comments, and texts in quotes, stay."""
+    """Comments stay, and so do texts in quotes that end on their line."""
     mark = "--" if path.endswith(".antt") else "//"
     at = line.find(mark)
     if path.endswith(".antt") and at > 0 and line[at - 1] not in " ":

@@ -7,8 +7,8 @@ mod session;
 mod tests;
 mod wording;
 
-use anyhow::anyhow;
 use std::io::Read;
+use std::process::ExitCode;
 
 const USAGE: &str =
     "rulkhaved reads calls from standard input, one a line, and prints what each came to:
@@ -34,11 +34,10 @@ fn run(rt: &HostRuntime) -> anyhow::Result<bool> {
     Ok(understood)
 }
 
-fn main(rt: HostRuntime) -> anyhow::Result<()> {
-    let understood = run(&rt)?;
-    if understood {
-        Ok(())
+fn main(rt: HostRuntime) -> anyhow::Result<ExitCode> {
+    if run(&rt)? {
+        Ok(ExitCode::SUCCESS)
     } else {
-        Err(anyhow!("a line was not understood"))
+        Ok(ExitCode::FAILURE)
     }
 }
