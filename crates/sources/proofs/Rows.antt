@@ -32,8 +32,8 @@ entry_inside x p q = grind (arith, ints)
 module _ (b : Book) where
   pub book_laid : 768 ≤ length b.amounts → Laid b.sizes (length b.amounts)
   book_laid h =
-      let all = cells_le b.sizes.properties b.sizes.rows b.sizes.columns b.fewProperties b.fewRows b.fewColumns in
-      record { properties = b.fewProperties; rows = b.fewRows; columns = b.fewColumns; all = omega arith }
+      let all = cells_le b.sizes.properties b.sizes.rows b.sizes.columns b.few_properties b.few_rows b.few_columns in
+      record { properties = b.few_properties; rows = b.few_rows; columns = b.few_columns; all = omega arith }
 
   pub book_fits : (m : ℕ) → Fits b.sizes.properties (rule_at b.rules.records m)
   book_fits m = record { few = b.short m; each = λ t l. record { property = b.own m t; reach = b.reaches m t; low = b.lows m t; high = b.highs m t } }
@@ -43,7 +43,7 @@ module _ (b : Book) where
       ≡ capped (gathering_past (book_of b) m i k) (exact_exposure (book_of b) m k i)
   book_exact m i k row column room =
       gathered_exact b.sizes b.amounts (rule_at b.rules.records m) i k row column (b.own m) (book_laid room).all
-      (λ j. entry_inside (get_or b.amounts j (pos 0)) (b.entriesLow j) (b.entriesHigh j))
+      (λ j. entry_inside (get_or b.amounts j (pos 0)) (b.entries_low j) (b.entries_high j))
 
 -- what gathering answers, placed
 module _ (m i k : ℕ) where
@@ -186,7 +186,7 @@ module _ (b : paper.Book) (m k i : ℕ) where
 
 -- ---- bounds
 amount_small : (b : Book) (c : Cell) → nat_abs ((book_of b).amount c) ≤ 1000000000
-amount_small b c = go (in_sizes b.sizes c) (get_or b.amounts (place_of b.sizes c) (pos 0)) (b.entriesLow _) (b.entriesHigh _)
+amount_small b c = go (in_sizes b.sizes c) (get_or b.amounts (place_of b.sizes c) (pos 0)) (b.entries_low _) (b.entries_high _)
   where
     go : (t : Bool) (x : ℤ) → negsuc 999999999 ≤ℤ x → x ≤ℤ pos 1000000000 → nat_abs (cond t x (pos 0)) ≤ 1000000000
     go true x l h = omega (arith, ints)

@@ -52,7 +52,7 @@ returns-in_err-sum c =
 pub overflow_add-result : goal.overflow_add-result
 overflow_add-result c =
     let b = c.args.book.now in
-    let few : c.args.i < 16 = omega (arith, b.fewRows) in
+    let few : c.args.i < 16 = omega (arith, b.few_rows) in
     let n = c.following.ensures.entry in
     next_fits b c.args.m c.args.k c.args.i few c.args.so_far.amounts c.following.result c.counted-next.result _ (ap (λ (t : Totals). t.amounts) c.requires.totals) n.0 n.1 c.counted-next.ensures
 
@@ -71,7 +71,7 @@ returns c =
     let fits : SFits w64 c.in_ok-sum.sum = search rules in
     let q : whole_ends c.in_ok-sum.sum ≡ point c.read-exposures.result = ap whole_ends (sym (to_z-of_z w64 c.in_ok-sum.sum fits)) ∙ c.read-exposures.ensures.0 in
     let a-is : a ≡ next_amounts_through (book_of b) c.args.m c.args.k c.args.i = ap (λ (t : Totals). t.amounts) c.requires.totals in
-    let few : c.args.i < 16 = omega (arith, b.fewRows) in
+    let few : c.args.i < 16 = omega (arith, b.few_rows) in
     let n = c.following.ensures.entry in
     let x = c.counted-next.result in
     let test = lt_z (pos 0) (to_z w64 (of_z w64 v)) in

@@ -18,11 +18,11 @@ invariant_of-self c =
     let e = sym c.add.ensures in
     let fits : SFits w64 new.coefficient = search rules in
     record {
-      someProperty = b.someProperty;
-      fewProperties = b.fewProperties;
-      fewRows = b.fewRows;
-      someColumn = b.someColumn;
-      fewColumns = b.fewColumns;
+      some_property = b.some_property;
+      few_properties = b.few_properties;
+      few_rows = b.few_rows;
+      some_column = b.some_column;
+      few_columns = b.few_columns;
       triangle = b.triangle;
       short = subst (λ (r : List Rule). Short r) e (short_longer rules m new b.short c.if-self-m-ge6.false);
       six = subst (λ (r : List Rule). SixTerms r) e (six_longer rules m new (omega arith) b.six);
@@ -30,8 +30,8 @@ invariant_of-self c =
       reaches = subst (λ (r : List Rule). Reaches r) e (terms_longer (λ t. t.reach ≤ 2) rules m new b.reaches (omega arith));
       lows = subst (λ (r : List Rule). Lows r) e (terms_longer (λ t. negsuc 99 ≤ℤ t.coefficient) rules m new b.lows (coefficient_low _ fits c.if-term-ltminus100.false));
       highs = subst (λ (r : List Rule). Highs r) e (terms_longer (λ t. t.coefficient ≤ℤ pos 100) rules m new b.highs (coefficient_high _ fits c.if-term-gt100.false));
-      entriesLow = b.entriesLow;
-      entriesHigh = b.entriesHigh;
+      entries_low = b.entries_low;
+      entries_high = b.entries_high;
     }
 
 pub returns : goal.returns

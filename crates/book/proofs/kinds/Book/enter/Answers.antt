@@ -10,7 +10,7 @@ use Rattle.book.proofs.kinds.Book.enter.Goals as goal
 pub bounds-self-at : goal.bounds-self-at
 bounds-self-at c =
     let b = c.args.self.now in
-    place_lt b.sizes.properties b.sizes.rows b.sizes.columns c.args.m c.args.i c.args.k b.fewProperties b.fewRows b.fewColumns (omega arith) (omega arith) (omega arith)
+    place_lt b.sizes.properties b.sizes.rows b.sizes.columns c.args.m c.args.i c.args.k b.few_properties b.few_rows b.few_columns (omega arith) (omega arith) (omega arith)
 
 pub invariant_of-self : goal.invariant_of-self
 invariant_of-self c =
@@ -18,11 +18,11 @@ invariant_of-self c =
     let x = c.args.amount in
     let e = entry_read x (omega (arith, ints)) (omega (arith, ints)) in
     record {
-      someProperty = b.someProperty;
-      fewProperties = b.fewProperties;
-      fewRows = b.fewRows;
-      someColumn = b.someColumn;
-      fewColumns = b.fewColumns;
+      some_property = b.some_property;
+      few_properties = b.few_properties;
+      few_rows = b.few_rows;
+      some_column = b.some_column;
+      few_columns = b.few_columns;
       triangle = b.triangle;
       short = b.short;
       six = b.six;
@@ -30,8 +30,8 @@ invariant_of-self c =
       reaches = b.reaches;
       lows = b.lows;
       highs = b.highs;
-      entriesLow = λ j. set_all (λ z. negsuc 999999999 ≤ℤ z) b.amounts _ _ (pos 0) (rw e (omega (arith, ints))) j (b.entriesLow j);
-      entriesHigh = λ j. set_all (λ z. z ≤ℤ pos 1000000000) b.amounts _ _ (pos 0) (rw e (omega (arith, ints))) j (b.entriesHigh j);
+      entries_low = λ j. set_all (λ z. negsuc 999999999 ≤ℤ z) b.amounts _ _ (pos 0) (rw e (omega (arith, ints))) j (b.entries_low j);
+      entries_high = λ j. set_all (λ z. z ≤ℤ pos 1000000000) b.amounts _ _ (pos 0) (rw e (omega (arith, ints))) j (b.entries_high j);
     }
 
 pub returns : goal.returns
@@ -40,7 +40,7 @@ returns c =
     let x = c.args.amount in
     let cell = cell_at c.args.m c.args.i c.args.k in
     let e = entry_read x (omega (arith, ints)) (omega (arith, ints)) in
-    let at = place_lt b.sizes.properties b.sizes.rows b.sizes.columns c.args.m c.args.i c.args.k b.fewProperties b.fewRows b.fewColumns (omega arith) (omega arith) (omega arith) in
+    let at = place_lt b.sizes.properties b.sizes.rows b.sizes.columns c.args.m c.args.i c.args.k b.few_properties b.few_rows b.few_columns (omega arith) (omega arith) (omega arith) in
     let room : place_of b.sizes cell < length b.amounts = omega arith in (
       search rules,
       ap (λ z. book_from b.sizes (set b.amounts (place_of b.sizes cell) z) b.rules.records) e

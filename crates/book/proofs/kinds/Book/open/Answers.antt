@@ -12,11 +12,11 @@ invariant_of-result c =
     let e = sym c.empty-rules.ensures in
     let p = c.args.sizes.properties in
     record {
-      someProperty = omega arith;
-      fewProperties = omega arith;
-      fewRows = omega arith;
-      someColumn = omega arith;
-      fewColumns = omega arith;
+      some_property = omega arith;
+      few_properties = omega arith;
+      few_rows = omega arith;
+      some_column = omega arith;
+      few_columns = omega arith;
       triangle = omega arith;
       short = subst (λ (r : List Rule). Short r) e opened_short;
       six = subst (λ (r : List Rule). SixTerms r) e opened_six;
@@ -24,8 +24,8 @@ invariant_of-result c =
       reaches = subst (λ (r : List Rule). Reaches r) e (opened_terms (λ t. t.reach ≤ 2) (omega arith));
       lows = subst (λ (r : List Rule). Lows r) e (opened_terms (λ t. negsuc 99 ≤ℤ t.coefficient) (omega (arith, ints)));
       highs = subst (λ (r : List Rule). Highs r) e (opened_terms (λ t. t.coefficient ≤ℤ pos 100) (omega (arith, ints)));
-      entriesLow = λ j. subst (λ (z : ℤ). negsuc 999999999 ≤ℤ z) (sym (zeros 768 j)) (omega (arith, ints));
-      entriesHigh = λ j. subst (λ (z : ℤ). z ≤ℤ pos 1000000000) (sym (zeros 768 j)) (omega (arith, ints));
+      entries_low = λ j. subst (λ (z : ℤ). negsuc 999999999 ≤ℤ z) (sym (zeros 768 j)) (omega (arith, ints));
+      entries_high = λ j. subst (λ (z : ℤ). z ≤ℤ pos 1000000000) (sym (zeros 768 j)) (omega (arith, ints));
     }
 
 pub returns : goal.returns
