@@ -34,32 +34,21 @@ pub fn product(f: i64, a: i64) -> i64
     f * a
 }
 
-// The least of the four products of a factor's ends and an amount's ends.
-pub fn least_product(x: i64, y: i64, c: i64, d: i64) -> i64
-    requires factors { (FactorSize x) × (FactorSize y) }
-    requires amounts { (AmountSize c) × (AmountSize d) }
-    ensures value { result ≡ least (record { lo = x; hi = y }) (record { lo = c; hi = d }) }
-    ensures size { ProductSize result }
+// The least and the greatest of the four products of a factor's ends and an amount's ends.
+pub fn product_range(factor: (i64, i64), amount: (i64, i64)) -> (i64, i64)
+    requires factors { (FactorSize factor.0) × (FactorSize factor.1) }
+    requires amounts { (AmountSize amount.0) × (AmountSize amount.1) }
+    ensures least { result.0 ≡ least (record { lo = factor.0; hi = factor.1 }) (record { lo = amount.0; hi = amount.1 }) }
+    ensures greatest { result.1 ≡ greatest (record { lo = factor.0; hi = factor.1 }) (record { lo = amount.0; hi = amount.1 }) }
+    ensures sizes { (ProductSize result.0) × (ProductSize result.1) }
 {
+    let (x, y) = factor;
+    let (c, d) = amount;
     let p = product(x, c);
     let q = product(x, d);
     let s = product(y, c);
     let t = product(y, d);
-    p.min(q).min(s.min(t))
-}
-
-// The greatest of them.
-pub fn greatest_product(x: i64, y: i64, c: i64, d: i64) -> i64
-    requires factors { (FactorSize x) × (FactorSize y) }
-    requires amounts { (AmountSize c) × (AmountSize d) }
-    ensures value { result ≡ greatest (record { lo = x; hi = y }) (record { lo = c; hi = d }) }
-    ensures size { ProductSize result }
-{
-    let p = product(x, c);
-    let q = product(x, d);
-    let s = product(y, c);
-    let t = product(y, d);
-    p.max(q).max(s.max(t))
+    (p.min(q).min(s.min(t)), p.max(q).max(s.max(t)))
 }
 
 // (1000 - w) x + w y
@@ -82,13 +71,15 @@ pub fn inexact(z: i64, d: i64, q: i64) -> i64
 }
 
 // |c| s + |e| r + r s, for a factor c ± r and an amount e ± s
-pub fn spread(c: i64, r: i64, e: i64, s: i64) -> i64
-    requires factor { CentreSize 200000000 c r }
-    requires amount { CentreSize 40000000000 e s }
-    ensures value { result ≡ exact_radius (record { mid = c; rad = r }) (record { mid = e; rad = s }) }
+pub fn spread(factor: (i64, i64), amount: (i64, i64)) -> i64
+    requires factor { CentreSize 200000000 factor.0 factor.1 }
+    requires amount { CentreSize 40000000000 amount.0 amount.1 }
+    ensures value { result ≡ exact_radius (record { mid = factor.0; rad = factor.1 }) (record { mid = amount.0; rad = amount.1 }) }
     ensures size { ProductSize result }
     ensures some { pos 0 ≤ℤ result }
 {
+    let (c, r) = factor;
+    let (e, s) = amount;
     let p = product(c.abs(), s);
     let q = product(r, e.abs());
     let t = product(r, s);

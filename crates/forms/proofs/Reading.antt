@@ -1,12 +1,12 @@
 -- Numbers read back from their bits, and the ends of sums and multiples.
-use Rattle.std.proofs.Common.{◌≡◌, ℕ, suc, ◌-◌, ◌<◌, ◌≤◌, true, false, T, [], ◌∷◌, ℤ, pos, negsuc, ◌+ℤ◌, ◌*ℤ◌, neg_ℤ, nat_abs, ◌≤ℤ◌, ◌<ℤ◌, sym, refl, ap, ◌∙◌, subst, arith, w64, SFits, to_z, of_z}
+use Rattle.std.proofs.Common.{◌≡◌, ℕ, suc, ◌-◌, ◌<◌, ◌≤◌, true, false, T, [], ◌∷◌, ℤ, pos, negsuc, ◌+ℤ◌, ◌*ℤ◌, neg_ℤ, nat_abs, ◌≤ℤ◌, ◌<ℤ◌, lit<, sym, refl, ap, ◌∙◌, subst, arith, w64, SFits, to_z, of_z}
 use lib.Signed.{le_z, le_z_yes}
 use Rattle.std.proofs.lemmas.Int.{ints, to_z-of_z}
 use Rattle.algebra.proofs.Ints.{nn, 0≤*, *ℤ_mono}
 use Rattle.algebra.proofs.Quote.{quotes, cert, 0≤gap}
 use Rattle.algebra.proofs.Division.{floor_le, ceil_ge, cancel_lt}
 use Rattle.algebra.specs.Interval.{Ends, floor_div, ceil_div, least, greatest, apply}
-use Rattle.algebra.specs.Sizes.{FactorSize}
+use Rattle.algebra.specs.Sizes.{ProductSize}
 use Rattle.paper.proofs.EndsForm.{ends_lawful}
 use Rattle.paper.specs.EndsForm.{ends_mix}
 use Rattle.paper.specs.Numbers.{Amount, Factor, both}
@@ -17,6 +17,10 @@ back z h = to_z-of_z w64 z h
 
 pub both_eq : {a b c d : ℤ} → a ≡ c → b ≡ d → both a b ≡ both c d
 both_eq p q = cc
+
+-- what a pair of ends is asked for: room for its two numbers, their order, and a ceiling
+pub asked : {l h : ℤ} → l ≤ℤ h → (ceiling : ℕ) → (16 < 9223372036854775808) × ((l ≤ℤ h) × (pos 0 ≤ℤ pos ceiling))
+asked o ceiling = (lit< tt, (o, nn ceiling))
 
 pub sum_read : (a b : ℤ) → negsuc 39999999999 ≤ℤ a → a ≤ℤ pos 40000000000 → negsuc 39999999999 ≤ℤ b → b ≤ℤ pos 40000000000 →
     to_z w64 (of_z w64 (to_z w64 (of_z w64 a) +ℤ to_z w64 (of_z w64 b))) ≡ a +ℤ b
@@ -104,14 +108,6 @@ factor_low_fits a b s = let p = s.low in let q = s.order in let r = s.high in om
 factor_high_fits : (a b : ℤ) → Factor (both a b) → SFits w64 b
 factor_high_fits a b s = let p = s.low in let q = s.order in let r = s.high in omega (arith, ints)
 
--- the sizes of a factor's ends, as a call is passed them
-pub factor_sizes : (a b : ℤ) → Factor (both a b) → FactorSize (to_z w64 (of_z w64 a)) × FactorSize (to_z w64 (of_z w64 b))
-factor_sizes a b s =
-    let p = s.low in
-    let q = s.order in
-    let r = s.high in
-    (rw (back a (factor_low_fits a b s)) (record { size = omega (arith, ints) }), rw (back b (factor_high_fits a b s)) (record { size = omega (arith, ints) }))
-
 ordered_in : (l h : ℤ) → l ≤ℤ h → T (le_z l h)
 ordered_in l h o = o.le
 
@@ -138,29 +134,19 @@ module _ (w : ℕ) (few : w ≤ 1000) (a b c d x y l h : ℤ) (f : Factor (both 
   pub mix_order : to_z w64 (of_z w64 l) ≤ℤ to_z w64 (of_z w64 h)
   mix_order = rw (low_mix, high_mix) (le_z_yes (ends_lawful.can_mix w (both a b) (both c d) few (ordered_in a b f.order) (ordered_in c d g.order)))
 
+pub fits_product : (z : ℤ) → ProductSize z → SFits w64 z
+fits_product z h = let k = h.size in omega (arith, ints)
+
 -- an application, likewise
 module _ (x y c d p q l h : ℤ) (f : Factor (both x y)) (a : Amount (both c d))
     (p-fits : SFits w64 p) (q-fits : SFits w64 q) (l-fits : SFits w64 l) (h_fits : SFits w64 h)
-    (p_is : p ≡ least (both (to_z w64 (of_z w64 x)) (to_z w64 (of_z w64 y))) (both (to_z w64 (of_z w64 c)) (to_z w64 (of_z w64 d))))
-    (q_is : q ≡ greatest (both (to_z w64 (of_z w64 x)) (to_z w64 (of_z w64 y))) (both (to_z w64 (of_z w64 c)) (to_z w64 (of_z w64 d))))
+    (p_is : p ≡ least (both x y) (both c d)) (q_is : q ≡ greatest (both x y) (both c d))
     (l-is : l ≡ floor_div (to_z w64 (of_z w64 p)) 10000000) (h-is : h ≡ ceil_div (to_z w64 (of_z w64 q)) 10000000) where
-  factor_back : both (to_z w64 (of_z w64 x)) (to_z w64 (of_z w64 y)) ≡ both x y
-  factor_back = both_eq (back x (factor_low_fits x y f)) (back y (factor_high_fits x y f))
-
-  amount_back : both (to_z w64 (of_z w64 c)) (to_z w64 (of_z w64 d)) ≡ both c d
-  amount_back = both_eq (back c (low_fits c d a)) (back d (high_fits c d a))
-
-  least_back : to_z w64 (of_z w64 p) ≡ least (both x y) (both c d)
-  least_back = back p p-fits ∙ p_is ∙ ap (λ e. least e (both (to_z w64 (of_z w64 c)) (to_z w64 (of_z w64 d)))) factor_back ∙ ap (least (both x y)) amount_back
-
-  greatest_back : to_z w64 (of_z w64 q) ≡ greatest (both x y) (both c d)
-  greatest_back = back q q-fits ∙ q_is ∙ ap (λ e. greatest e (both (to_z w64 (of_z w64 c)) (to_z w64 (of_z w64 d)))) factor_back ∙ ap (greatest (both x y)) amount_back
-
   low_apply : to_z w64 (of_z w64 l) ≡ floor_div (least (both x y) (both c d)) 10000000
-  low_apply = back l l-fits ∙ l-is ∙ ap (λ z. floor_div z 10000000) least_back
+  low_apply = back l l-fits ∙ l-is ∙ ap (λ z. floor_div z 10000000) (back p p-fits ∙ p_is)
 
   high_apply : to_z w64 (of_z w64 h) ≡ ceil_div (greatest (both x y) (both c d)) 10000000
-  high_apply = back h h_fits ∙ h-is ∙ ap (λ z. ceil_div z 10000000) greatest_back
+  high_apply = back h h_fits ∙ h-is ∙ ap (λ z. ceil_div z 10000000) (back q q-fits ∙ q_is)
 
   pub apply_ends : both (to_z w64 (of_z w64 l)) (to_z w64 (of_z w64 h)) ≡ apply (both x y) (both c d)
   unfolding apply

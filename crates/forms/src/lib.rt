@@ -3,7 +3,7 @@
 
 ghost use Rattle.std.specs.Prelude.{◌≡◌, ℕ, ◌≤◌, ℤ, pos, negsuc, ◌≤ℤ◌, ◌<ℤ◌, unsigned_abs};
 ghost use Rattle.algebra.specs.Interval.{Ends};
-ghost use Rattle.paper.specs.Numbers.{Amount, Factor, both, point};
+ghost use Rattle.paper.specs.Numbers.{Amount, Factor, both, inside, point};
 ghost use Rattle.paper.specs.Sums.{sum_of_ends, multiple_of_ends};
 ghost use Rattle.paper.specs.Forms.{Form, Lawful};
 ghost use Rattle.forms.specs.Told.{told, ceiled, factor_ceiled};
@@ -12,11 +12,11 @@ pub mod centre;
 pub mod two_ends;
 pub mod whole;
 
-// What a form refuses with. A form knows no place: its caller adds it.
+// What a form refuses with, by the number of its ground. A form knows no place: its caller adds it.
 #[derive(Clone, Copy, PartialEq, Eq, Debug)]
 pub enum FormFault {
-    AmountCeiling,
-    FactorCeiling,
+    AmountCeiling = 14,
+    FactorCeiling = 15,
 }
 
 // The largest amount of either sign, in hundredths.
@@ -30,6 +30,13 @@ pub(crate) const SCALE: i64 = 10_000_000;
 
 // Parts in a whole weight.
 pub(crate) const WEIGHTS: i64 = 1000;
+
+// Whether a whole number of hundredths is an amount.
+pub fn is_amount(hundredths: i64) -> bool
+    ensures { result ≡ inside (point hundredths) }
+{
+    -AMOUNT_CEILING <= hundredths && hundredths <= AMOUNT_CEILING
+}
 
 // An amount between two ends, with sums and multiples. A result past the ceiling is refused, exactly then.
 pub trait SummingForm: Copy {
@@ -57,17 +64,15 @@ pub trait SummingForm: Copy {
 pub trait ProjectingForm: SummingForm {
     type Factor: Copy;
 
-    // how far apart the ends of a ratio of exact amounts may lie
+    // How far apart the ends of a ratio of exact amounts may lie.
     const SLACK: u64;
 
-    // what the form makes of exact ends, with its slack
+    ghost SLACK: { ℕ };
+
+    // what the form makes of exact ends
     ghost form: { Form };
 
     ghost fends: { Self.Factor → Ends };
-
-    // The slack as a clause can cite it.
-    fn slack_number() -> u64
-        ensures { result ≡ form.slack };
 
     // The lower and the upper end of a factor.
     fn factor_pair(f: &Self::Factor) -> (i64, i64)
@@ -89,6 +94,8 @@ pub trait ProjectingForm: SummingForm {
     // A factor applied to an amount: f a / 10^7
     fn apply(f: &Self::Factor, a: &Self) -> Result<Self, FormFault>
         ensures { told Self.SummingForm.ends result ≡ ceiled (form.apply (fends f.now) (Self.SummingForm.ends a.now)) };
+
+    ghost slack: { form.slack ≡ SLACK };
 
     ghost lawful: { Lawful form };
 

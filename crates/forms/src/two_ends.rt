@@ -1,70 +1,50 @@
 // The two-ends form: both ends are kept, the least exact result rounded down and the greatest up. Its slack is 2.
-ghost use Rattle.std.specs.Prelude.{◌≡◌, ◌≤ℤ◌};
-ghost use Rattle.paper.specs.Numbers.{both, Amount, Factor};
+ghost use Rattle.std.specs.Prelude.{◌≡◌, pos, neg_ℤ, ◌≤ℤ◌};
+ghost use Rattle.paper.specs.Numbers.{both, OrderedWithin};
 ghost use Rattle.paper.specs.EndsForm.{ends_form};
-ghost use Rattle.forms.specs.Told.{told, ceiled, factor_ceiled};
-ghost use Rattle.forms.specs.Held.{two_ends, factor_ends};
+ghost use Rattle.forms.specs.Told.{told, within_or};
+ghost use Rattle.forms.specs.Held.{pair_within, two_ends, factor_ends};
 ghost use Rattle.std.proofs.Common.{rules};
 ghost use Rattle.paper.proofs.EndsForm.{ends_lawful};
 
 use crate::{
     AMOUNT_CEILING, FACTOR_CEILING, FormFault, ProjectingForm, SCALE, SummingForm, WEIGHTS,
 };
-use algebra::{greatest_product, least_product, product, rounded_down, rounded_up, weighted};
+use algebra::{product, product_range, rounded_down, rounded_up, weighted};
 
-// An amount between two ends. Numbers out of order or past the ceiling count as zero.
-#[derive(Clone, Copy)]
-pub struct TwoEnds {
+// Two ends of at most a ceiling. Numbers out of order or past the ceiling count as zero.
+#[derive(Clone, Copy, PartialEq, Eq, Debug)]
+pub struct EndPair<const CEILING: i64> {
     pub low: i64,
     pub high: i64,
 }
 
-// A factor between two ends, likewise.
-#[derive(Clone, Copy)]
-pub struct FactorEnds {
-    pub low: i64,
-    pub high: i64,
-}
+// An amount between two ends.
+pub type TwoEnds = EndPair<AMOUNT_CEILING>;
 
-// The two numbers as an amount, unless one passes the ceiling.
-fn held(low: i64, high: i64) -> Result<TwoEnds, FormFault>
-    requires { low ≤ℤ high }
-    ensures { told two_ends result ≡ ceiled (both low high) }
-{
-    if low < -AMOUNT_CEILING || high > AMOUNT_CEILING {
-        return Err(FormFault::AmountCeiling);
-    }
-    Ok(TwoEnds { low, high })
-}
+// A factor between two ends.
+pub type FactorEnds = EndPair<FACTOR_CEILING>;
 
-// The two numbers as a factor, unless one passes the ceiling.
-fn factor_held(low: i64, high: i64) -> Result<FactorEnds, FormFault>
-    requires { low ≤ℤ high }
-    ensures { told factor_ends result ≡ factor_ceiled (both low high) }
-{
-    if low < -FACTOR_CEILING || high > FACTOR_CEILING {
-        return Err(FormFault::FactorCeiling);
-    }
-    Ok(FactorEnds { low, high })
-}
-
-impl TwoEnds {
-    fn read(&self) -> (i64, i64)
-        ensures { (two_ends self.now ≡ both result.0 result.1) × (Amount (both result.0 result.1)) }
+impl<const CEILING: i64> EndPair<CEILING> {
+    // The two numbers, unless one passes the ceiling.
+    fn held(low: i64, high: i64, fault: FormFault) -> Result<EndPair<CEILING>, FormFault>
+        requires order { low ≤ℤ high }
+        requires ceiling { pos 0 ≤ℤ CEILING }
+        ensures { told (pair_within CEILING) result ≡ within_or (neg_ℤ CEILING) CEILING fault (both low high) }
     {
-        if -AMOUNT_CEILING <= self.low && self.low <= self.high && self.high <= AMOUNT_CEILING {
-            (self.low, self.high)
-        } else {
-            (0, 0)
+        if low < -CEILING || high > CEILING {
+            return Err(fault);
         }
+        Ok(EndPair { low, high })
     }
-}
 
-impl FactorEnds {
+    // The two ends, if they are some, and else zero.
     fn read(&self) -> (i64, i64)
-        ensures { (factor_ends self.now ≡ both result.0 result.1) × (Factor (both result.0 result.1)) }
+        requires { pos 0 ≤ℤ CEILING }
+        ensures ends { pair_within CEILING self.now ≡ both result.0 result.1 }
+        ensures within { OrderedWithin (neg_ℤ CEILING) CEILING (both result.0 result.1) }
     {
-        if -FACTOR_CEILING <= self.low && self.low <= self.high && self.high <= FACTOR_CEILING {
+        if -CEILING <= self.low && self.low <= self.high && self.high <= CEILING {
             (self.low, self.high)
         } else {
             (0, 0)
@@ -82,13 +62,13 @@ impl SummingForm for TwoEnds {
     }
 
     fn whole(hundredths: i64) -> Result<TwoEnds, FormFault> {
-        held(hundredths, hundredths)
+        TwoEnds::held(hundredths, hundredths, FormFault::AmountCeiling)
     }
 
     fn plus(&self, other: &TwoEnds) -> Result<TwoEnds, FormFault> {
         let (a, b) = self.read();
         let (c, d) = other.read();
-        held(a + c, b + d)
+        TwoEnds::held(a + c, b + d, FormFault::AmountCeiling)
     }
 
     fn times(&self, coefficient: i64) -> Result<TwoEnds, FormFault> {
@@ -96,9 +76,9 @@ impl SummingForm for TwoEnds {
         let at_low = product(coefficient, a);
         let at_high = product(coefficient, b);
         if coefficient >= 0 {
-            held(at_low, at_high)
+            TwoEnds::held(at_low, at_high, FormFault::AmountCeiling)
         } else {
-            held(at_high, at_low)
+            TwoEnds::held(at_high, at_low, FormFault::AmountCeiling)
         }
     }
 }
@@ -108,29 +88,33 @@ impl ProjectingForm for TwoEnds {
 
     const SLACK: u64 = 2;
 
+    ghost SLACK = { 2 };
+
     ghost form = { ends_form };
 
     ghost fends = { factor_ends };
 
+    ghost slack = { Prim.search rules };
+
     ghost lawful = { ends_lawful };
 
     ghost factor = { Prim.search rules };
-
-    fn slack_number() -> u64 {
-        Self::SLACK
-    }
 
     fn factor_pair(f: &FactorEnds) -> (i64, i64) {
         f.read()
     }
 
     fn exact(ten_millionths: i64) -> Result<FactorEnds, FormFault> {
-        factor_held(ten_millionths, ten_millionths)
+        FactorEnds::held(ten_millionths, ten_millionths, FormFault::FactorCeiling)
     }
 
     fn ratio(p: i64, q: i64) -> Result<FactorEnds, FormFault> {
         let scaled = product(SCALE, p);
-        factor_held(rounded_down(scaled, q), rounded_up(scaled, q))
+        FactorEnds::held(
+            rounded_down(scaled, q),
+            rounded_up(scaled, q),
+            FormFault::FactorCeiling,
+        )
     }
 
     fn mix(w: u16, f: &FactorEnds, g: &FactorEnds) -> Result<FactorEnds, FormFault> {
@@ -138,14 +122,19 @@ impl ProjectingForm for TwoEnds {
         let (c, d) = g.read();
         let least = weighted(w, a, c);
         let greatest = weighted(w, b, d);
-        factor_held(rounded_down(least, WEIGHTS), rounded_up(greatest, WEIGHTS))
+        FactorEnds::held(
+            rounded_down(least, WEIGHTS),
+            rounded_up(greatest, WEIGHTS),
+            FormFault::FactorCeiling,
+        )
     }
 
     fn apply(f: &FactorEnds, a: &TwoEnds) -> Result<TwoEnds, FormFault> {
-        let (x, y) = f.read();
-        let (c, d) = a.read();
-        let least = least_product(x, y, c, d);
-        let greatest = greatest_product(x, y, c, d);
-        held(rounded_down(least, SCALE), rounded_up(greatest, SCALE))
+        let (least, greatest) = product_range(f.read(), a.read());
+        TwoEnds::held(
+            rounded_down(least, SCALE),
+            rounded_up(greatest, SCALE),
+            FormFault::AmountCeiling,
+        )
     }
 }

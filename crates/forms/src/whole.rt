@@ -5,27 +5,25 @@ ghost use Rattle.forms.specs.Told.{told, ceiled};
 ghost use Rattle.forms.specs.Held.{whole_ends};
 ghost use Rattle.std.proofs.Common.{rules};
 
-use crate::{AMOUNT_CEILING, FormFault, SummingForm};
+use crate::{FormFault, SummingForm, is_amount};
 use algebra::product;
 
 // The number, unless it passes the ceiling.
 fn held(value: i64) -> Result<i64, FormFault>
     ensures { told whole_ends result ≡ ceiled (point value) }
 {
-    if value < -AMOUNT_CEILING || value > AMOUNT_CEILING {
-        return Err(FormFault::AmountCeiling);
+    if is_amount(value) {
+        Ok(value)
+    } else {
+        Err(FormFault::AmountCeiling)
     }
-    Ok(value)
 }
 
 // The number as an amount; past the ceiling it counts as zero.
 pub fn read(value: &i64) -> i64
     ensures { (whole_ends value.now ≡ point result) × (Amount (point result)) }
 {
-    if *value < -AMOUNT_CEILING || *value > AMOUNT_CEILING {
-        return 0;
-    }
-    *value
+    if is_amount(*value) { *value } else { 0 }
 }
 
 impl SummingForm for i64 {

@@ -10,25 +10,31 @@ amount_ceiling = 40_000_000_000
 abbrev pub factor_ceiling : ℕ
 factor_ceiling = 200_000_000
 
+-- no end lies outside the bounds
+abbrev pub between_bounds : ℤ → ℤ → Ends → Bool
+between_bounds low high e = int_le low e.lo && int_le e.hi high
+
 -- no end passes the amount ceiling
 abbrev pub inside : Ends → Bool
-inside e = int_le (negsuc 39999999999) e.lo && int_le e.hi (pos 40000000000)
+inside e = between_bounds (negsuc 39999999999) (pos 40000000000) e
 
 -- no end passes the factor ceiling
 abbrev pub factor_inside : Ends → Bool
-factor_inside e = int_le (negsuc 199999999) e.lo && int_le e.hi (pos 200000000)
+factor_inside e = between_bounds (negsuc 199999999) (pos 200000000) e
+
+-- ends in order, and within the bounds
+pub record OrderedWithin (least most : ℤ) (e : Ends) : Type 0 where
+  pub low : least ≤ℤ e.lo
+  pub order : e.lo ≤ℤ e.hi
+  pub high : e.hi ≤ℤ most
 
 -- the ends of an amount: in order, and within the ceiling
-pub record Amount (e : Ends) : Type 0 where
-  pub low : negsuc 39999999999 ≤ℤ e.lo
-  pub order : e.lo ≤ℤ e.hi
-  pub high : e.hi ≤ℤ pos 40000000000
+abbrev pub Amount : Ends → Type 0
+Amount e = OrderedWithin (negsuc 39999999999) (pos 40000000000) e
 
--- the ends of a factor: in order, and within the ceiling
-pub record Factor (e : Ends) : Type 0 where
-  pub low : negsuc 199999999 ≤ℤ e.lo
-  pub order : e.lo ≤ℤ e.hi
-  pub high : e.hi ≤ℤ pos 200000000
+-- the ends of a factor, likewise
+abbrev pub Factor : Ends → Type 0
+Factor e = OrderedWithin (negsuc 199999999) (pos 200000000) e
 
 abbrev pub both : ℤ → ℤ → Ends
 both l h = record { lo = l; hi = h }

@@ -1,18 +1,13 @@
 use Rattle.std.proofs.Common.{ap, ◌∙◌}
 use Rattle.forms.specs.Told.{ceiled}
-use Rattle.forms.proofs.Centring.{rounded_held, fits_within, apply_around}
+use Rattle.forms.proofs.Centring.{fits_within, apply_around}
 use Rattle.forms.proofs.centre.CentreRadiusProjectingForm.apply.Goals as goal
-
-pub held-requires : goal.held-requires
-held-requires c =
-    let k = c.rounded_around-centre.ensures.sizes in
-    rounded_held _ _ (fits_within _ k.0) (fits_within _ k.1.0) k.0 k.1.0 k.1.1
 
 pub returns : goal.returns
 returns c =
     let k = c.rounded_around-centre.ensures.sizes in
-    rw (c.read-c.ensures.0, c.read-e.ensures.0)
+    rw (c.read-factor.ensures.ends, c.read-amount.ensures.ends)
     (c.held.ensures ∙ ap ceiled
-    (apply_around _ _ _ _ c.product-middle.result c.spread-apart.result _ _ c.read-c.ensures.1 c.read-e.ensures.1
+    (apply_around _ _ _ _ c.product-middle.result c.spread-apart.result _ _ c.read-factor.ensures.size c.read-amount.ensures.size
     (record { sfits = c.product-middle.type_inv }) (record { sfits = c.spread-apart.type_inv }) (fits_within _ k.0) (fits_within _ k.1.0)
     c.product-middle.ensures.value c.spread-apart.ensures.value c.rounded_around-centre.ensures.centre c.rounded_around-centre.ensures.radius))

@@ -7,4 +7,4 @@ pub returns : goal.returns
 returns c =
     let a = c.read-c.ensures in
     let b = c.read-e.ensures in
-    rw (a.0, b.0) (c.held.ensures ∙ ap ceiled (sum_reads _ _ _ _ a.1 b.1 ∙ around_sum c.read-c.result.0 c.read-c.result.1 c.read-e.result.0 c.read-e.result.1))
+    rw (a.ends, b.ends) (c.held.ensures ∙ ap ceiled (sum_reads _ _ _ _ a.size b.size ∙ around_sum c.read-c.result.0 c.read-c.result.1 c.read-e.result.0 c.read-e.result.1))

@@ -1,18 +1,20 @@
 use Rattle.std.proofs.Common.{ap, ◌∙◌}
 use Rattle.forms.specs.Told.{ceiled}
-use Rattle.forms.proofs.Reading.{apply_ends, apply_order}
+use Rattle.forms.proofs.Reading.{asked, fits_product, apply_ends, apply_order}
 use Rattle.forms.proofs.two_ends.TwoEndsProjectingForm.apply.Goals as goal
 
 pub held-requires : goal.held-requires
 held-requires c =
-    apply_order _ _ _ _ c.least_product-least.result c.greatest_product-greatest.result c.rounded_down.result c.rounded_up.result c.read-x.ensures.1 c.read-c.ensures.1
-    (record { sfits = c.least_product-least.type_inv }) (record { sfits = c.greatest_product-greatest.type_inv }) (record { sfits = c.rounded_down.type_inv }) (record { sfits = c.rounded_up.type_inv })
-    c.least_product-least.ensures.value c.greatest_product-greatest.ensures.value c.rounded_down.ensures c.rounded_up.ensures
+    let k = c.product_range-least.ensures in
+    asked (apply_order _ _ _ _ _ _ c.rounded_down.result c.rounded_up.result c.read.ensures.within c.read-2.ensures.within
+    (fits_product _ k.sizes.0) (fits_product _ k.sizes.1) (record { sfits = c.rounded_down.type_inv }) (record { sfits = c.rounded_up.type_inv })
+    k.least k.greatest c.rounded_down.ensures c.rounded_up.ensures) 40000000000
 
 pub returns : goal.returns
 returns c =
-    rw (c.read-x.ensures.0, c.read-c.ensures.0)
+    let k = c.product_range-least.ensures in
+    rw (c.read.ensures.ends, c.read-2.ensures.ends)
     (c.held.ensures ∙ ap ceiled
-    (apply_ends _ _ _ _ c.least_product-least.result c.greatest_product-greatest.result c.rounded_down.result c.rounded_up.result c.read-x.ensures.1 c.read-c.ensures.1
-    (record { sfits = c.least_product-least.type_inv }) (record { sfits = c.greatest_product-greatest.type_inv }) (record { sfits = c.rounded_down.type_inv }) (record { sfits = c.rounded_up.type_inv })
-    c.least_product-least.ensures.value c.greatest_product-greatest.ensures.value c.rounded_down.ensures c.rounded_up.ensures))
+    (apply_ends _ _ _ _ _ _ c.rounded_down.result c.rounded_up.result c.read.ensures.within c.read-2.ensures.within
+    (fits_product _ k.sizes.0) (fits_product _ k.sizes.1) (record { sfits = c.rounded_down.type_inv }) (record { sfits = c.rounded_up.type_inv })
+    k.least k.greatest c.rounded_down.ensures c.rounded_up.ensures))

@@ -7,4 +7,4 @@ pub returns : goal.returns
 returns c =
     let a = c.read-a.ensures in
     let b = c.read-c.ensures in
-    rw (a.0, b.0) (c.held.ensures ∙ ap ceiled (ends_read _ _ _ _ a.1 b.1))
+    rw (a.ends, b.ends) (c.held.ensures ∙ ap ceiled (ends_read _ _ _ _ a.within b.within))
