@@ -15,8 +15,8 @@ pub mod whole;
 // What a form refuses with. A form knows no place: its caller adds it.
 #[derive(Clone, Copy, PartialEq, Eq, Debug)]
 pub enum FormFault {
-    AmountCeiling,
-    FactorCeiling,
+    AmountCeiling = 14,
+    FactorCeiling = 15,
 }
 
 // The largest amount of either sign, in hundredths.
