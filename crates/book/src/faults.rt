@@ -1,44 +1,44 @@
 // Why a call is declined: a ground, where it arose, the place, and the credibility layers above.
 ghost use Rattle.std.specs.Prelude.{◌≡◌, Result};
-ghost use Rattle.book.specs.Grounds.{number, origin_number, placed};
+ghost use Rattle.book.specs.Grounds.{number, origin_number, form_ground, fault_at, placed};
 ghost use Rattle.book.specs.declared.faults.Place.{Place};
 ghost use Rattle.book.specs.declared.faults.Fault.{Fault};
 
 use forms::FormFault;
 
-#[derive(Clone, Copy, PartialEq, Eq, Debug)]
+#[derive(Clone, Copy, PartialEq, Eq, Hash, Debug)]
 pub enum Ground {
-    SizesOutside,
-    NoProperty,
-    NoRow,
-    NoColumn,
-    NotObserved,
-    EntryLimit,
-    ShiftOutside,
-    NoReach,
-    CoefficientOutside,
-    RuleFull,
-    NegativeExposure,
-    AmountCeiling,
-    FactorCeiling,
+    SizesOutside = 1,
+    NoProperty = 2,
+    NoRow = 3,
+    NoColumn = 4,
+    NotObserved = 5,
+    EntryLimit = 6,
+    ShiftOutside = 7,
+    NoReach = 8,
+    CoefficientOutside = 9,
+    RuleFull = 10,
+    NegativeExposure = 13,
+    AmountCeiling = 14,
+    FactorCeiling = 15,
 }
 
-#[derive(Clone, Copy, PartialEq, Eq, Debug)]
+#[derive(Clone, Copy, PartialEq, Eq, Hash, Debug)]
 pub enum Origin {
-    OfBook,
-    OfForm,
-    OfSource,
+    OfBook = 0,
+    OfForm = 1,
+    OfSource = 2,
 }
 
 // A number that does not apply is 0.
-#[derive(Clone, Copy, PartialEq, Eq, Debug)]
+#[derive(Clone, Copy, PartialEq, Eq, PartialOrd, Ord, Hash, Default, Debug)]
 pub struct Place {
     pub property: usize,
     pub row: usize,
     pub column: usize,
 }
 
-#[derive(Clone, Copy, PartialEq, Eq, Debug)]
+#[derive(Clone, Copy, PartialEq, Eq, Hash, Debug)]
 pub struct Fault {
     pub ground: Ground,
     pub origin: Origin,
@@ -50,21 +50,7 @@ impl Ground {
     pub fn number(&self) -> u8
         ensures { result ≡ number self.now }
     {
-        match self {
-            Ground::SizesOutside => 1,
-            Ground::NoProperty => 2,
-            Ground::NoRow => 3,
-            Ground::NoColumn => 4,
-            Ground::NotObserved => 5,
-            Ground::EntryLimit => 6,
-            Ground::ShiftOutside => 7,
-            Ground::NoReach => 8,
-            Ground::CoefficientOutside => 9,
-            Ground::RuleFull => 10,
-            Ground::NegativeExposure => 13,
-            Ground::AmountCeiling => 14,
-            Ground::FactorCeiling => 15,
-        }
+        *self as u8
     }
 }
 
@@ -72,10 +58,31 @@ impl Origin {
     pub fn number(&self) -> u8
         ensures { result ≡ origin_number self.now }
     {
-        match self {
-            Origin::OfBook => 0,
-            Origin::OfForm => 1,
-            Origin::OfSource => 2,
+        *self as u8
+    }
+}
+
+impl From<FormFault> for Ground {
+    ghost from_gives = { λ fault ground. ground ≡ form_ground fault };
+
+    fn from(fault: FormFault) -> Self {
+        match fault {
+            FormFault::AmountCeiling => Ground::AmountCeiling,
+            FormFault::FactorCeiling => Ground::FactorCeiling,
+        }
+    }
+}
+
+impl Fault {
+    // A fault with no credibility layers above it.
+    pub fn new(ground: Ground, origin: Origin, place: Place) -> Self
+        ensures { result ≡ fault_at origin place 0 ground }
+    {
+        Fault {
+            ground,
+            origin,
+            place,
+            layers: 0,
         }
     }
 }
@@ -96,20 +103,6 @@ impl<V> Placing for Result<V, FormFault> {
     ghost placing = { λ r p. placed p r };
 
     fn at(self, place: Place) -> Result<V, Fault> {
-        match self {
-            Ok(v) => Ok(v),
-            Err(FormFault::AmountCeiling) => Err(Fault {
-                ground: Ground::AmountCeiling,
-                origin: Origin::OfForm,
-                place,
-                layers: 0,
-            }),
-            Err(FormFault::FactorCeiling) => Err(Fault {
-                ground: Ground::FactorCeiling,
-                origin: Origin::OfForm,
-                place,
-                layers: 0,
-            }),
-        }
+        self.map_err(|fault| Fault::new(fault.into(), Origin::OfForm, place))
     }
 }

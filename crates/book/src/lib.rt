@@ -5,3 +5,4 @@ pub mod faults;
 pub mod keying;
 pub mod kinds;
 pub mod rules;
+mod wording;

@@ -82,11 +82,11 @@ impl Session {
         match outcomes_of(self.heap, self.form, sizes, calls.as_slice())? {
             Ok(outcomes) => {
                 self.outcomes = outcomes;
-                self.out.push_str("accepted")?;
+                write!(self.out, "{}", Outcome::Accepted)?;
             }
             Err(fault) => {
                 self.outcomes = Vec::new(self.heap);
-                wording::refusal(&mut self.out, &fault)?;
+                write!(self.out, "{}", Outcome::Refused(fault))?;
             }
         }
         Ok(())
@@ -96,7 +96,7 @@ impl Session {
     fn made(&mut self) -> anyhow::Result<()> {
         match self.outcomes.get(self.printed) {
             Some(outcome) => {
-                wording::outcome(&mut self.out, outcome)?;
+                write!(self.out, "{outcome}")?;
                 self.printed = self.printed.saturating_add(1);
             }
             None => self.out.push_str("not taken: no book is open")?,
