@@ -1,3 +1,3 @@
 pub mod Places
-pub mod Kept
+pub mod Rule
 pub mod Keyed

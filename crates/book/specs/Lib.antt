@@ -1,4 +1,5 @@
 pub mod Grounds
 pub mod Limits
+pub mod Rule
 pub mod Stored
 pub mod Keying

@@ -1,5 +1,5 @@
 -- The paper's book that a stored book stands for.
-use Rattle.std.specs.Prelude.{ℕ, zero, suc, ◌+◌, ◌*◌, Bool, cond, ◌&&◌, List, map, take, ℤ, pos, nat_lt, slice_index_or}
+use Rattle.std.specs.Prelude.{ℕ, zero, suc, ◌+◌, ◌*◌, Bool, cond, ◌&&◌, List, map, ℤ, pos, nat_lt, slice_index_or}
 use Rattle.paper.specs.Books as paper
 use Rattle.paper.specs.Books.{Cell, Reach, cumulative, first, latest}
 use Rattle.book.specs.declared.rules.Term.{Term}
@@ -26,7 +26,7 @@ abbrev pub term_of : Term → paper.Term
 term_of t = record { property = t.property; shift = t.shift; reach = reach_of t.reach; coefficient = t.coefficient }
 
 abbrev pub terms_of : Rule → List paper.Term
-terms_of r = map term_of (take r.len r.terms)
+terms_of r = map term_of r
 
 abbrev pub amounts_of : Sizes → List ℤ → Cell → ℤ
 amounts_of s amounts c = cond (in_sizes s c) (slice_index_or amounts (place_of s c) (pos 0)) (pos 0)

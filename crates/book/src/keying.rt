@@ -83,7 +83,7 @@ impl Book {
         if amount < -ENTRY_LIMIT || amount > ENTRY_LIMIT {
             return declined(Ground::EntryLimit, m, i, k);
         }
-        let at = (m * self.sizes.rows + i) * self.sizes.columns + k;
+        let at = self.sizes.row_start(m, i) + k;
         self.amounts[at] = amount;
         Ok(())
     }
@@ -108,7 +108,7 @@ impl Book {
         if term.coefficient < -100 || term.coefficient > 100 || term.coefficient == 0 {
             return declined(Ground::CoefficientOutside, m, 0, 0);
         }
-        if self.rules.records[m].len >= 6 {
+        if self.rules.records[m].is_full() {
             return declined(Ground::RuleFull, m, 0, 0);
         }
         self.rules.add(m, term);

@@ -1,6 +1,6 @@
 // The book's own type, alone here, so that definitions of specs/ can name it.
-ghost use Rattle.std.specs.Prelude.{◌≤◌};
-ghost use Rattle.book.specs.Limits.{Short, SixTerms, Properties, Reaches, Lows, Highs, EntriesLow, EntriesHigh};
+ghost use Rattle.std.specs.Prelude.{◌≡◌, ◌+◌, ◌*◌, ◌<◌, ◌≤◌, All};
+ghost use Rattle.book.specs.Limits.{ReadsWithin, IsEntry};
 
 use crate::rules::RuleTable;
 
@@ -11,7 +11,17 @@ pub struct Sizes {
     pub columns: usize,
 }
 
-// The amount of property m, row i and column k stands at (m × rows + i) × columns + k.
+impl Sizes {
+    // Where row i of property m begins among a book's amounts; column k stands k places on.
+    pub fn row_start(&self, m: usize, i: usize) -> usize
+        requires bounds { (self.now.rows ≤ 16) × (self.now.columns ≤ 12) }
+        requires place { (m < 4) × (i < 16) }
+        ensures { (result ≡ (m * self.now.rows + i) * self.now.columns) × (result ≤ 756) }
+    {
+        (m * self.rows + i) * self.columns
+    }
+}
+
 #[derive(Drop)]
 pub struct Book {
     pub sizes: Sizes,
@@ -23,12 +33,6 @@ pub struct Book {
     ghost some_column: { 1 ≤ sizes.columns },
     ghost few_columns: { sizes.columns ≤ 12 },
     ghost triangle: { sizes.columns ≤ sizes.rows },
-    ghost short: { Short rules.records },
-    ghost six: { SixTerms rules.records },
-    ghost own: { Properties sizes.properties rules.records },
-    ghost reaches: { Reaches rules.records },
-    ghost lows: { Lows rules.records },
-    ghost highs: { Highs rules.records },
-    ghost entries_low: { EntriesLow amounts },
-    ghost entries_high: { EntriesHigh amounts },
+    ghost own: { All (ReadsWithin sizes.properties) rules.records },
+    ghost entries: { All IsEntry amounts },
 }

@@ -1,6 +1,8 @@
 // Rules of terms, in a table of one record for each property.
-ghost use Rattle.std.specs.Prelude.{◌≡◌, ◌<◌, slice_set};
-ghost use Rattle.book.specs.Limits.{rule_at, longer, no_rules};
+ghost use Rattle.std.specs.Prelude.{◌≡◌, ◌<◌, ◌≤◌, ◌↔◌, List, [], ◌∷◌, ◌++◌, All, length, replicate, slice_set, IsTrue};
+ghost use Rattle.book.specs.Limits.{IsRuleTerm, rule_at};
+
+use std::marker::Model;
 
 // A term reads a row of a property, `shift` rows back, and takes a multiple of it. Reach 0 is the sum of the columns so
 // far, 1 column 0, and 2 the column itself.
@@ -12,11 +14,69 @@ pub struct Term {
     pub coefficient: i64,
 }
 
-// The terms of a rule are the first `len`.
+// A list of at most six terms. It is an array with a length, since the engine holds books in fixed memory and allocates
+// nothing; past the length stand blank terms.
 #[derive(Clone, Copy)]
 pub struct Rule {
-    pub len: usize,
-    pub terms: [Term; 6],
+    len: usize,
+    terms: [Term; 6],
+}
+
+impl Model for Rule {
+    ghost use Rattle.std.specs.Prelude.{List};
+    ghost use Rattle.book.specs.declared.rules.Term.{Term};
+
+    ghost Value = { List Term };
+
+    ghost use Rattle.book.specs.Rule.{first_terms, IsHeld, padded};
+
+    ghost view = { first_terms };
+
+    ghost invariant = { IsHeld };
+
+    ghost inverse = { padded };
+
+    ghost inverse_ok = { λ _ h. h.filled };
+}
+
+impl Rule {
+    pub fn empty() -> Rule
+        ensures { result ≡ [] }
+    {
+        let blank = Term {
+            property: 0,
+            shift: 0,
+            reach: 0,
+            coefficient: 0,
+        };
+        Rule {
+            len: 0,
+            terms: [blank; 6],
+        }
+    }
+
+    pub fn terms(&self) -> &[Term]
+        ensures value { result.now ≡ self.now }
+        ensures each { All IsRuleTerm result.now }
+    {
+        &self.terms[..self.len]
+    }
+
+    pub fn is_full(&self) -> bool
+        ensures { IsTrue result ↔ (6 ≤ length self.now) }
+    {
+        self.len >= 6
+    }
+
+    // Adds a term last.
+    pub fn push(&mut self, term: Term)
+        requires room { length self.old < 6 }
+        requires term { IsRuleTerm term }
+        ensures { self.new ≡ self.old ++ term ∷ [] }
+    {
+        self.terms[self.len] = term;
+        self.len += 1;
+    }
 }
 
 #[derive(Clone, Copy)]
@@ -26,30 +86,19 @@ pub struct RuleTable {
 
 impl RuleTable {
     pub(crate) fn empty() -> RuleTable
-        ensures { result.records ≡ no_rules }
+        ensures { result.records ≡ replicate 4 [] }
     {
-        let term = Term {
-            property: 0,
-            shift: 0,
-            reach: 0,
-            coefficient: 0,
-        };
         RuleTable {
-            records: [Rule {
-                len: 0,
-                terms: [term; 6],
-            }; 4],
+            records: [Rule::empty(); 4],
         }
     }
 
     // Adds a term last in the rule of one property; every other rule stays.
     pub(crate) fn add(&mut self, m: usize, term: Term)
-        requires { (m < 4) × ((rule_at self.old.records m).len < 6) }
-        ensures { self.new.records ≡ slice_set self.old.records m (longer (rule_at self.old.records m) term) }
+        requires room { (m < 4) × (length (rule_at self.old.records m) < 6) }
+        requires term { IsRuleTerm term }
+        ensures { self.new.records ≡ slice_set self.old.records m (rule_at self.old.records m ++ term ∷ []) }
     {
-        let mut rule = self.records[m];
-        rule.terms[rule.len] = term;
-        rule.len += 1;
-        self.records[m] = rule;
+        self.records[m].push(term);
     }
 }
