@@ -1,13 +1,12 @@
 -- A row of an estimate, from what the calls of its function answered.
-use Rattle.std.proofs.Common.{◌≡◌, ℕ, zero, suc, ◌+◌, ◌-◌, ◌*◌, ◌<◌, ◌≤◌, Bool, true, false, cond, ◌∷◌, map, length, get_or, ℤ, pos, negsuc, ◌+ℤ◌, nat_abs, ◌≤ℤ◌, ◌<ℤ◌, Some, None, Ok, Err, Option, Result, sym, refl, ap, ◌∙◌, add-one, arith}
-use lib.Signed.{lt_z}
+use Rattle.std.proofs.Common.{◌≡◌, ℕ, zero, suc, ◌+◌, ◌-◌, ◌*◌, ◌<◌, ◌≤◌, true, ◌∷◌, map, get_or, ℤ, pos, negsuc, ◌+ℤ◌, nat_abs, ◌≤ℤ◌, ◌<ℤ◌, Some, None, Ok, Err, Option, Result, sym, refl, ap, ◌∙◌, add-one, arith}
 use Rattle.std.proofs.lemmas.Int.{ints}
 use Rattle.algebra.specs.Interval.{Ends}
 use Rattle.paper.specs.Numbers.{Amount, point, inside}
 use Rattle.paper.specs.Sums.{nothing, sum_of_ends}
 use Rattle.paper.specs.Books as paper
 use Rattle.paper.specs.Books.{Cell, cell_at, with_terms}
-use Rattle.paper.specs.Sources.{Cause, amount_past, or_else, rising, past, amount_cause, gathering_past, exact_exposure, next_amount, exposures_through, next_amounts_through, row_cause}
+use Rattle.paper.specs.Sources.{Cause, or_else, rising, amount_cause, gathering_past, exact_exposure, next_amount, exposures_through, next_amounts_through, row_cause}
 use Rattle.forms.specs.declared.FormFault.{FormFault}
 use Rattle.forms.specs.Told.{told, ceiled, evaluated}
 use Rattle.forms.specs.Held.{whole_ends}
@@ -15,25 +14,21 @@ use Rattle.book.specs.declared.faults.Fault.{Fault}
 use Rattle.book.specs.declared.kinds.Book.{Book}
 use Rattle.book.specs.Grounds.{at_place, placed}
 use Rattle.book.specs.Limits.{rule_at}
-use Rattle.book.specs.Stored.{book_of, terms_of, in_sizes, place_of, cells}
-use Rattle.book.proofs.Places.{cells_le}
+use Rattle.book.specs.Stored.{book_of, terms_of, place_of}
 use Rattle.gathering.specs.Laid.{on_sheet}
 use Rattle.sources.specs.Estimates.{unless_cause, totals_through}
 use Rattle.sources.specs.declared.estimated.Totals.{Totals}
-use Rattle.sources.proofs.Exactly.{capped, step_capped, gathered_exact}
+use Rattle.sources.proofs.Exactly.{stop, capped, step_capped, gathered_exact}
 
 entry_inside : (x : ℤ) → negsuc 999999999 ≤ℤ x → x ≤ℤ pos 1000000000 → inside (point x) ≡ true
 entry_inside x p q = grind (arith, ints)
 
 -- an exposure gathered from a book's own amounts
-pub book_exact : (b : Book) (m i k : ℕ) → i < b.sizes.rows → k < b.sizes.columns → 768 ≤ length b.amounts →
+pub book_exact : (b : Book) (m i k : ℕ) → i < b.sizes.rows → k < b.sizes.columns →
     evaluated (on_sheet b.sizes (map whole_ends b.amounts)) (with_terms i k nothing (terms_of (rule_at b.rules.records m)))
     ≡ capped (gathering_past (book_of b) m i k) (exact_exposure (book_of b) m k i)
-book_exact b m i k row column room =
-    let few = cells_le b.sizes.properties b.sizes.rows b.sizes.columns b.few_properties b.few_rows b.few_columns in
-    let all : cells b.sizes ≤ length b.amounts = omega arith in
-    gathered_exact b.sizes b.amounts (rule_at b.rules.records m) i k row column (b.own m) all
-    (λ j. entry_inside (get_or b.amounts j (pos 0)) (b.entries_low j) (b.entries_high j))
+book_exact b m i k row column =
+    gathered_exact b.sizes i k row column b.amounts (rule_at b.rules.records m) (b.own m) (λ j. entry_inside (get_or b.amounts j (pos 0)) (b.entries_low j) (b.entries_high j))
 
 -- what a reading answers: the number, or its cause
 pub read_exact : (m i k : ℕ) (r : Result ℤ Fault) (o : Option ℤ) (v : ℤ) → told point r ≡ placed (at_place m i k) (capped o v) → r ≡ unless_cause m k (amount_cause i o) v
@@ -56,32 +51,21 @@ with_exposures a x = record { amounts = a; exposures = x }
 whole_is : (x : ℤ) → Amount (point x) → whole_ends x ≡ point x
 whole_is x a = grind (arith, ints)
 
-abbrev stop : ℤ → Option ℤ
-stop v = or_else (cond (past v) (Some v) None) None
-
-amount_cause-stop : (i : ℕ) (v : ℤ) → amount_cause i (stop v) ≡ cond (past v) (Some (amount_past i v)) None
-amount_cause-stop i v = elim (past v) as (λ b. amount_cause i (or_else (cond b (Some v) None) None) ≡ cond b (Some (amount_past i v)) None) [ true ↦ refl | false ↦ refl ]
-
 -- ---- a row whose exposure is above 0
 module _ (b : paper.Book) (m k i : ℕ) (own : ℤ) (given : Ok own ≡ unless_cause m k (amount_cause i (gathering_past b m i k)) (exact_exposure b m k i))
     (above : pos 0 <ℤ own) where
   own_is : own ≡ exact_exposure b m k i
   own_is = (ok_is m k _ _ own given).1
 
-  counts : lt_z (pos 0) (exact_exposure b m k i) ≡ true
-  counts = rw (← own_is) (grind (arith, ints))
-
   exposures_more : exposures_through b m k (i + 1) ≡ exposures_through b m k i +ℤ own
-  exposures_more = rw (add-one, counts, own_is) refl
+  exposures_more = let e = own_is in rw add-one (grind (arith, ints))
 
   amounts_more : next_amounts_through b m k (i + 1) ≡ next_amounts_through b m k i +ℤ next_amount b m k i
-  amounts_more = rw (add-one, counts) refl
+  amounts_more = let e = own_is in rw add-one (grind (arith, ints))
 
   -- its cause, if any, is that the sum of the exposures passes the ceiling
   row_is : row_cause b m k i ≡ amount_cause i (stop (exposures_through b m k (i + 1)))
-  row_is =
-      let fair : lt_z (exact_exposure b m k i) (pos 0) ≡ false = rw (← own_is) (grind (arith, ints)) in
-      rw ((ok_is m k _ _ own given).0, fair, amount_cause-stop) refl
+  row_is = let none = (ok_is m k _ _ own given).0 in let e = own_is in grind (arith, ints)
 
   module _ (t : Totals) (t-is : t ≡ totals_through b m k i) (kept : Amount (point t.exposures)) (amount : Amount (point own)) (sum : Result ℤ FormFault)
       (sum-is : told whole_ends sum ≡ ceiled (sum_of_ends (whole_ends t.exposures) (whole_ends own))) (r : Result ℤ Fault)
@@ -102,37 +86,22 @@ module _ (b : paper.Book) (m k i : ℕ) (own : ℤ) (given : Ok own ≡ unless_c
 
 -- ---- bounds
 amount_small : (b : Book) (c : Cell) → nat_abs ((book_of b).amount c) ≤ 1000000000
-amount_small b c = go (in_sizes b.sizes c) (get_or b.amounts (place_of b.sizes c) (pos 0)) (b.entries_low _) (b.entries_high _)
-  where
-    go : (t : Bool) (x : ℤ) → negsuc 999999999 ≤ℤ x → x ≤ℤ pos 1000000000 → nat_abs (cond t x (pos 0)) ≤ 1000000000
-    go true x l h = omega (arith, ints)
-    go false x l h = omega arith
+amount_small b c = let low = b.entries_low (place_of b.sizes c) in let high = b.entries_high (place_of b.sizes c) in grind (arith, ints)
 
 amounts_small : (b : Book) (m k n : ℕ) → nat_abs (next_amounts_through (book_of b) m k n) ≤ 1000000000 * n
 amounts_small b m k zero = omega arith
-amounts_small b m k (suc n) =
-    go (lt_z (pos 0) (exact_exposure (book_of b) m k n)) (next_amounts_through (book_of b) m k n) (next_amount (book_of b) m k n) (amounts_small b m k n) (amount_small b (cell_at m n (k + 1)))
-  where
-    go : (t : Bool) (a x : ℤ) → nat_abs a ≤ 1000000000 * n → nat_abs x ≤ 1000000000 → nat_abs (cond t (a +ℤ x) a) ≤ 1000000000 * suc n
-    go true a x p q = omega (arith, ints)
-    go false a x p q = omega arith
+amounts_small b m k (suc n) = grind (arith, ints, amounts_small b m k n, amount_small b (cell_at m n (k + 1)))
 
 -- exposures that count are above 0, so their sum is not below it
 exposures_positive : (b : paper.Book) (m k n : ℕ) → pos 0 ≤ℤ exposures_through b m k n
 exposures_positive b m k zero = omega (arith, ints)
-exposures_positive b m k (suc n) = go (lt_z (pos 0) (exact_exposure b m k n)) (exposures_through b m k n) (exact_exposure b m k n) refl (exposures_positive b m k n)
-  where
-    go : (t : Bool) (a r : ℤ) → lt_z (pos 0) r ≡ t → pos 0 ≤ℤ a → pos 0 ≤ℤ cond t (a +ℤ r) a
-    go true a r e h = grind (arith, ints)
-    go false a r e h = h
-
-small_amount : (x : ℤ) (n : ℕ) → nat_abs x ≤ 1000000000 * n → n ≤ 16 → Amount (point x)
-small_amount x n h l = record { low = omega (arith, ints); order = omega (arith, ints); high = omega (arith, ints) }
+exposures_positive b m k (suc n) = grind (arith, ints, exposures_positive b m k n)
 
 -- what is known of the totals of n rows
 pub totals_known : (b : Book) (m k n : ℕ) (t : Totals) → t ≡ totals_through (book_of b) m k n → n ≤ 16 → Amount (point t.amounts) × (pos 0 ≤ℤ t.exposures)
 totals_known b m k n t t-is few =
-    rw t-is (small_amount (next_amounts_through (book_of b) m k n) n (amounts_small b m k n) few, exposures_positive (book_of b) m k n)
+    let small = amounts_small b m k n in
+    rw t-is (record { low = omega (arith, ints); order = omega (arith, ints); high = omega (arith, ints) }, exposures_positive (book_of b) m k n)
 
 -- ---- the rows one after the other
 pub rising_more : (i n : ℕ) → i < n → rising i (n - i) ≡ i ∷ rising (i + 1) (n - (i + 1))

@@ -1,5 +1,5 @@
 // A question for a factor, and what it reads of its book.
-ghost use Rattle.std.specs.Prelude.{◌≡◌, ℕ, ◌+◌, ◌<◌, pos, negsuc, ◌≤ℤ◌, Err, IfOk, MatchResult};
+ghost use Rattle.std.specs.Prelude.{◌≡◌, ◌<◌, pos, negsuc, ◌≤ℤ◌, Err, IfOk, MatchResult};
 ghost use Rattle.paper.specs.Numbers.{Amount, point};
 ghost use Rattle.paper.specs.Forms.{Form};
 ghost use Rattle.paper.specs.Sources.{Meaning, within, gathering_past, amount_cause, exact_exposure, next_amount};

@@ -1,4 +1,4 @@
-use Rattle.std.proofs.Common.{◌≤◌, length, ap, ◌∙◌, arith}
+use Rattle.std.proofs.Common.{ap, ◌∙◌}
 use Rattle.book.specs.Grounds.{placed}
 use Rattle.sources.proofs.Rows.{book_exact, read_exact}
 use Rattle.sources.proofs.exact.gathered.Goals as goal
@@ -7,6 +7,5 @@ pub returns-clause-value : goal.returns-clause-value
 returns-clause-value c =
     let b = c.args.book.now in
     let p = c.args.place in
-    let room : 768 ≤ length b.amounts = omega arith in
     read_exact p.property p.row p.column c.read_at.result _ _
-    (c.read_at.ensures.value ∙ ap (placed p) (c.exposure-sum.ensures ∙ book_exact b p.property p.row p.column c.requires.1 c.requires.2 room))
+    (c.read_at.ensures.value ∙ ap (placed p) (c.exposure-sum.ensures ∙ book_exact b p.property p.row p.column c.requires.1 c.requires.2))
