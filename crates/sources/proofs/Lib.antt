@@ -1,3 +1,2 @@
 pub mod Exactly
 pub mod Rows
-pub mod Answering

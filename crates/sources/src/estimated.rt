@@ -1,69 +1,75 @@
 // The estimated source: the next amounts over the exposures, of the rows whose exposure is above 0.
-ghost use Rattle.std.specs.Prelude.{◌≡◌, ℕ, ◌+◌, ◌<◌, IfOk};
-ghost use Rattle.paper.specs.Numbers.{Amount, point};
-ghost use Rattle.paper.specs.Sources.{estimated, row_cause, rows_cause, seen};
-ghost use Rattle.paper.specs.Laws.{AskedWithin};
+ghost use Rattle.std.specs.Prelude.{◌≡◌, ◌+◌, ◌<◌, IfOk};
+ghost use Rattle.paper.specs.Sources.{estimated, quotient_ends, row_cause, rows_cause, seen};
+ghost use Rattle.forms.specs.Told.{told, factor_ceiled};
 ghost use Rattle.book.specs.Stored.{book_of};
-ghost use Rattle.sources.specs.Estimates.{totals_through, unless_cause};
+ghost use Rattle.sources.specs.Estimates.{HasQuotient, totals_through, unless_cause};
 ghost use Rattle.paper.proofs.Estimating.{estimated_sound};
 ghost use Rattle.std.proofs.Common.{rules};
 
-use crate::exact::{counted, following, gathered, not_negative};
-use crate::source::{FactorSource, asked_within};
-use book::faults::{Fault, Place, Placing};
+use crate::exact::{not_negative, read_at};
+use crate::question::Question;
+use crate::source::FactorSource;
+use book::faults::{Fault, Placing};
 use book::kinds::Book;
-use forms::whole::read;
-use forms::{ProjectingForm, SummingForm};
+use forms::{FormFault, ProjectingForm, SummingForm};
 
 #[derive(Clone, Copy)]
 pub struct Estimated;
 
 // The next amounts and the exposures of the rows so far.
-#[derive(Clone, Copy)]
+#[derive(Clone, Copy, Default, PartialEq, Eq, Debug)]
 pub struct Totals {
     pub amounts: i64,
     pub exposures: i64,
 }
 
-// The totals with row i; a row with exposure 0 does not count, and its next amount neither.
-fn with_row(book: &Book, m: usize, k: usize, i: usize, so_far: Totals) -> Result<Totals, Fault>
-    requires asked { AskedWithin (book_of book.now) m k }
-    requires row { i < seen (book_of book.now) k }
-    requires totals { so_far ≡ totals_through (book_of book.now) m k i }
-    requires kept { Amount (point so_far.exposures) }
-    ensures value { result ≡ unless_cause m k (row_cause (book_of book.now) m k i) (totals_through (book_of book.now) m k (i + 1)) }
-    ensures kept { IfOk result (λ t. Amount (point t.exposures)) }
-{
-    let place = Place {
-        property: m,
-        row: i,
-        column: k,
-    };
-    let own = gathered(book, m, i, k)?;
-    not_negative(own, place)?;
-    let sum = so_far.exposures.plus(&own).at(place)?;
-    let exposures = read(&sum);
-    let next = counted(own, following(book, m, i, k));
-    Ok(Totals {
-        amounts: so_far.amounts + next,
-        exposures,
-    })
-}
-
-// The totals of every row that has the next column observed.
-fn all_rows(book: &Book, m: usize, k: usize) -> Result<Totals, Fault>
-    requires { AskedWithin (book_of book.now) m k }
-    ensures value { result ≡ unless_cause m k (rows_cause (book_of book.now) m k) (totals_through (book_of book.now) m k (seen (book_of book.now) k)) }
-    ensures kept { IfOk result (λ t. Amount (point t.exposures)) }
-{
-    let mut so_far = Totals {
-        amounts: 0,
-        exposures: 0,
-    };
-    for i in 0..book.sizes.rows - (k + 1) {
-        so_far = with_row(book, m, k, i, so_far)?;
+impl Totals {
+    // The totals of every row that has the next column observed.
+    pub fn of(question: &Question) -> Result<Totals, Fault>
+        ensures value { let q = question.now in let b = book_of q.book.now in
+            result ≡ unless_cause q.property q.column (rows_cause b q.property q.column) (totals_through b q.property q.column (seen b q.column)) }
+        ensures kept { IfOk result HasQuotient }
+    {
+        let mut so_far = Totals::default();
+        for row in 0..question.book.sizes.rows - (question.column + 1) {
+            so_far = so_far.with_row(question, row)?;
+        }
+        Ok(so_far)
     }
-    Ok(so_far)
+
+    // The totals with one row more; a row with exposure 0 does not count, and its next amount neither.
+    fn with_row(self, question: &Question, row: usize) -> Result<Totals, Fault>
+        requires row { row < seen (book_of question.now.book.now) question.now.column }
+        requires totals { let q = question.now in self ≡ totals_through (book_of q.book.now) q.property q.column row }
+        requires kept { HasQuotient self }
+        ensures value { let q = question.now in let b = book_of q.book.now in
+            result ≡ unless_cause q.property q.column (row_cause b q.property q.column row) (totals_through b q.property q.column (row + 1)) }
+        ensures kept { IfOk result HasQuotient }
+    {
+        let place = question.place(row);
+        let exposure = question.exposure(row)?;
+        not_negative(exposure, place)?;
+        if exposure == 0 {
+            return Ok(self);
+        }
+        let exposures = read_at(self.exposures.plus(&exposure), place)?;
+        Ok(Totals {
+            amounts: self.amounts + question.following(row),
+            exposures,
+        })
+    }
+
+    // The next amounts over the exposures, and 0 over none.
+    fn quotient<F: ProjectingForm>(self) -> Result<F::Factor, FormFault>
+        requires { HasQuotient self }
+        ensures { told F.ProjectingForm.fends result ≡ factor_ceiled (quotient_ends F.ProjectingForm.form self.amounts self.exposures) }
+    {
+        if self.exposures == 0 {
+            return F::exact(0);
+        }
+        F::ratio(self.amounts, self.exposures)
+    }
 }
 
 impl FactorSource for Estimated {
@@ -78,19 +84,11 @@ impl FactorSource for Estimated {
     fn factor<F: ProjectingForm>(
         &self,
         book: &Book,
-        m: usize,
-        k: usize,
+        property: usize,
+        column: usize,
     ) -> Result<F::Factor, Fault> {
-        asked_within(book, m, k)?;
-        let totals = all_rows(book, m, k)?;
-        let place = Place {
-            property: m,
-            row: 0,
-            column: k,
-        };
-        if totals.exposures == 0 {
-            return F::exact(0).at(place);
-        }
-        F::ratio(totals.amounts, totals.exposures).at(place)
+        let question = Question::asked_within(book, property, column)?;
+        let totals = Totals::of(&question)?;
+        totals.quotient::<F>().at(question.place(0))
     }
 }

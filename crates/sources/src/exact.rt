@@ -1,40 +1,52 @@
-// Exposures and next amounts as a book holds them, in whole numbers.
-ghost use Rattle.std.specs.Prelude.{◌≡◌, ℕ, ◌+◌, ◌<◌, true, false, pos, negsuc, ◌≤ℤ◌, IfOk, if◌then◌else◌, MatchResult, int_lt};
+// Exposures as a book holds them, in whole numbers.
+ghost use Rattle.std.specs.Prelude.{◌≡◌, ◌<◌, true, false, pos, IfOk, MatchResult, int_lt};
+ghost use Rattle.paper.specs.Numbers.{Amount, point};
+ghost use Rattle.paper.specs.Sources.{gathering_past, amount_cause, exact_exposure};
+ghost use Rattle.forms.specs.Held.{whole_ends};
+ghost use Rattle.forms.specs.Told.{told};
 ghost use Rattle.book.specs.declared.faults.Ground.TheVariants.{NegativeExposure};
 ghost use Rattle.book.specs.declared.faults.Origin.TheVariants.{OfSource};
-ghost use Rattle.book.specs.Grounds.{fault_at};
-ghost use Rattle.paper.specs.Numbers.{Amount, point};
-ghost use Rattle.paper.specs.Sources.{gathering_past, amount_cause, exact_exposure, next_amount};
+ghost use Rattle.book.specs.Grounds.{fault_at, placed};
 ghost use Rattle.book.specs.Stored.{book_of};
 ghost use Rattle.sources.specs.Estimates.{unless_cause};
 
 use book::faults::{Fault, Ground, Origin, Place, Placing};
 use book::kinds::Book;
+use forms::FormFault;
 use forms::whole::read;
-use gathering::{exposure, row_start};
+use gathering::exposure;
 
-// The exposure of property m in row i and column k, or the fault of the first step past the ceiling.
-pub fn gathered(book: &Book, m: usize, i: usize, k: usize) -> Result<i64, Fault>
-    requires { (m < book.now.sizes.properties) × (i < book.now.sizes.rows) × (k < book.now.sizes.columns) }
-    ensures value { result ≡ unless_cause m k (amount_cause i (gathering_past (book_of book.now) m i k)) (exact_exposure (book_of book.now) m k i) }
+// The fault of a source.
+pub(crate) fn declined(ground: Ground, place: Place) -> Fault
+    ensures { result ≡ fault_at OfSource place 0 ground }
+{
+    Fault {
+        ground,
+        origin: Origin::OfSource,
+        place,
+        layers: 0,
+    }
+}
+
+// The number that a sum stands for, or its fault at the place.
+pub(crate) fn read_at(sum: Result<i64, FormFault>, place: Place) -> Result<i64, Fault>
+    ensures value { told point result ≡ placed place (told whole_ends sum) }
     ensures amount { IfOk result (λ v. Amount (point v)) }
 {
-    let place = Place {
-        property: m,
-        row: i,
-        column: k,
-    };
-    let sum = exposure(&book.amounts, &book.sizes, &book.rules.records[m], i, k).at(place)?;
+    let sum = sum.at(place)?;
     Ok(read(&sum))
 }
 
-// The observed amount that follows column k.
-pub fn following(book: &Book, m: usize, i: usize, k: usize) -> i64
-    requires { (m < book.now.sizes.properties) × (i < book.now.sizes.rows) × (k + 1 < book.now.sizes.columns) }
-    ensures value { result ≡ next_amount (book_of book.now) m k i }
-    ensures entry { (negsuc 999999999 ≤ℤ result) × (result ≤ℤ pos 1000000000) }
+// The exposure at a place, or the fault of the first step past the ceiling.
+pub fn gathered(book: &Book, place: Place) -> Result<i64, Fault>
+    requires { (place.property < book.now.sizes.properties) × (place.row < book.now.sizes.rows) × (place.column < book.now.sizes.columns) }
+    ensures value { let b = book_of book.now in
+        result ≡ unless_cause place.property place.column (amount_cause place.row (gathering_past b place.property place.row place.column)) (exact_exposure b place.property place.column place.row) }
+    ensures amount { IfOk result (λ v. Amount (point v)) }
 {
-    book.amounts[row_start(&book.sizes, m, i) + (k + 1)]
+    let rule = &book.rules.records[place.property];
+    let sum = exposure(&book.amounts, &book.sizes, rule, place.row, place.column);
+    read_at(sum, place)
 }
 
 // An exposure below 0 has no factor.
@@ -42,19 +54,7 @@ pub fn not_negative(exposure: i64, place: Place) -> Result<(), Fault>
     ensures { MatchResult result (λ _. int_lt exposure (pos 0) ≡ false) (λ e. (int_lt exposure (pos 0) ≡ true) × (e ≡ fault_at OfSource place 0 NegativeExposure)) }
 {
     if exposure < 0 {
-        return Err(Fault {
-            ground: Ground::NegativeExposure,
-            origin: Origin::OfSource,
-            place,
-            layers: 0,
-        });
+        return Err(declined(Ground::NegativeExposure, place));
     }
     Ok(())
-}
-
-// The next amount of a row counts where its exposure is above 0.
-pub fn counted(exposure: i64, next: i64) -> i64
-    ensures { result ≡ (if int_lt (pos 0) exposure then next else pos 0) }
-{
-    if exposure > 0 { next } else { 0 }
 }

@@ -3,4 +3,5 @@
 
 pub mod estimated;
 pub mod exact;
+pub mod question;
 pub mod source;

@@ -1,14 +1,13 @@
 // What a source of factors is.
-ghost use Rattle.std.specs.Prelude.{◌≡◌, ℕ, ◌≤◌, Err, MatchResult};
+ghost use Rattle.std.specs.Prelude.{◌≡◌, ℕ, ◌≤◌};
 ghost use Rattle.paper.specs.Books.{Book as PaperBook};
-ghost use Rattle.paper.specs.Forms.{Form};
-ghost use Rattle.paper.specs.Sources.{Meaning, within};
-ghost use Rattle.paper.specs.Laws.{Sound, AskedWithin};
+ghost use Rattle.paper.specs.Sources.{Meaning};
+ghost use Rattle.paper.specs.Laws.{Sound};
 ghost use Rattle.forms.specs.Told.{told};
 ghost use Rattle.book.specs.Stored.{book_of};
 ghost use Rattle.sources.specs.Asked.{answer_in};
 
-use book::faults::{Fault, Ground, Origin, Place};
+use book::faults::Fault;
 use book::kinds::Book;
 use forms::ProjectingForm;
 
@@ -19,42 +18,17 @@ pub trait FactorSource {
 
     ghost means: { Self → PaperBook → ℕ → ℕ → Meaning };
 
-    // The factor of property m from column k to the next. A question changes nothing.
-    fn factor<F: ProjectingForm>(&self, book: &Book, m: usize, k: usize) -> Result<F::Factor, Fault>
+    // The factor of a property from a column to the next. A question changes nothing.
+    fn factor<F: ProjectingForm>(
+        &self,
+        book: &Book,
+        property: usize,
+        column: usize,
+    ) -> Result<F::Factor, Fault>
         ensures { told F.ProjectingForm.fends result
-            ≡ answer_in F.ProjectingForm.form m k (means self.now (book_of book.now) m k) };
+            ≡ answer_in F.ProjectingForm.form property column (means self.now (book_of book.now) property column) };
 
     ghost deep: { (s : Self) → 1 ≤ depth s };
 
     ghost sound: { (s : Self) (b : PaperBook) (m k : ℕ) → Sound (depth s) b m k (means s b m k) };
-}
-
-// Whether the book has property m, and a column after column k.
-pub fn asked_within(book: &Book, m: usize, k: usize) -> Result<(), Fault>
-    ensures { MatchResult result
-        (λ _. AskedWithin (book_of book.now) m k)
-        (λ e. ((F : Form) (M : Meaning) → answer_in F m k (within (book_of book.now) m k M) ≡ Err e)) }
-{
-    let place = Place {
-        property: m,
-        row: 0,
-        column: k,
-    };
-    if m >= book.sizes.properties {
-        return Err(Fault {
-            ground: Ground::NoProperty,
-            origin: Origin::OfSource,
-            place,
-            layers: 0,
-        });
-    }
-    if k >= book.sizes.columns - 1 {
-        return Err(Fault {
-            ground: Ground::NoColumn,
-            origin: Origin::OfSource,
-            place,
-            layers: 0,
-        });
-    }
-    Ok(())
 }
