@@ -1,6 +1,5 @@
 -- The limits of a book hold of one that is opened, entered into or given a term.
-use Rattle.std.proofs.Common.{◌≡◌, ℕ, zero, suc, ◌<◌, ◌≤◌, ◌⊎◌, List, [], ◌∷◌, length, get_or, set, replicate, ℤ, pos, negsuc, ◌≤ℤ◌, sym, refl, subst, inl, inr, ⊎_elim, arith, length-set, w64, to_z, of_z}
-use Rattle.std.proofs.lemmas.Int.{ints}
+use Rattle.std.proofs.Common.{◌≡◌, ℕ, zero, suc, ◌<◌, ◌≤◌, ◌⊎◌, List, [], ◌∷◌, length, get_or, set, replicate, pos, sym, refl, subst, inl, inr, ⊎_elim, arith, length-set}
 use Rattle.paper.specs.Laws.{Each}
 use Rattle.book.specs.declared.rules.Rule.{Rule}
 use Rattle.book.specs.declared.rules.Term.{Term}
@@ -65,6 +64,3 @@ pub zeros : (n j : ℕ) → get_or (replicate n (pos 0)) j (pos 0) ≡ pos 0
 zeros zero j = refl
 zeros (suc n) zero = refl
 zeros (suc n) (suc j) = zeros n j
-
-pub entry_read : (x : ℤ) → negsuc 999999999 ≤ℤ x → x ≤ℤ pos 1000000000 → to_z w64 (of_z w64 x) ≡ x
-entry_read x p q = omega (arith, ints)

@@ -31,7 +31,7 @@ pub enum Origin {
 }
 
 // A number that does not apply is 0.
-#[derive(Clone, Copy, PartialEq, Eq, Debug)]
+#[derive(Clone, Copy, PartialEq, Eq, Default, Debug)]
 pub struct Place {
     pub property: usize,
     pub row: usize,
