@@ -2,6 +2,7 @@
 use Rattle.std.specs.Prelude.{ℕ, ◌+◌, Bool, ◌&&◌, ◌||◌, List, [], ◌∷◌, length, ℤ, pos, negsuc, Option, int_le, int_lt, nat_le, nat_lt}
 use Rattle.paper.specs.Books as paper
 use Rattle.book.specs.declared.faults.Ground.TheVariants.{SizesOutside, NoProperty, NoRow, NoColumn, NotObserved, EntryLimit, ShiftOutside, NoReach, CoefficientOutside, RuleFull}
+use Rattle.book.specs.declared.faults.Place.{Place}
 use Rattle.book.specs.declared.faults.Fault.{Fault}
 use Rattle.book.specs.declared.kinds.Sizes.{Sizes}
 use Rattle.book.specs.declared.rules.Term.{Term}
@@ -20,13 +21,13 @@ sizes_fault s =
     ∷ test (nat_lt s.rows s.columns) SizesOutside
     ∷ [])
 
-abbrev pub entry_fault : paper.Book → ℕ → ℕ → ℕ → ℤ → Option Fault
-entry_fault b m i k a =
-    first_fault (at_place m i k)
-    (test (nat_le b.properties m) NoProperty
-    ∷ test (nat_le b.rows i) NoRow
-    ∷ test (nat_le b.columns k) NoColumn
-    ∷ test (nat_le b.rows (i + k)) NotObserved
+abbrev pub entry_fault : paper.Book → Place → ℤ → Option Fault
+entry_fault b p a =
+    first_fault p
+    (test (nat_le b.properties p.property) NoProperty
+    ∷ test (nat_le b.rows p.row) NoRow
+    ∷ test (nat_le b.columns p.column) NoColumn
+    ∷ test (nat_le b.rows (p.row + p.column)) NotObserved
     ∷ test (outside (negsuc 999999999) (pos 1000000000) a) EntryLimit
     ∷ [])
 

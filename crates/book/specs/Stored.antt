@@ -1,12 +1,17 @@
 -- The paper's book that a stored book stands for.
 use Rattle.std.specs.Prelude.{ℕ, zero, suc, ◌+◌, ◌*◌, Bool, cond, ◌&&◌, List, map, ℤ, pos, nat_lt, slice_index_or}
 use Rattle.paper.specs.Books as paper
-use Rattle.paper.specs.Books.{Cell, Reach, cumulative, first, latest}
+use Rattle.paper.specs.Books.{Cell, Reach, cell_at, cumulative, first, latest}
+use Rattle.book.specs.declared.faults.Place.{Place}
 use Rattle.book.specs.declared.rules.Term.{Term}
 use Rattle.book.specs.declared.rules.Rule.{Rule}
 use Rattle.book.specs.declared.kinds.Sizes.{Sizes}
 use Rattle.book.specs.declared.kinds.Book.{Book}
 use Rattle.book.specs.Limits.{rule_at}
+
+-- the cell of a place that all three numbers apply to
+abbrev pub cell_of : Place → Cell
+cell_of p = cell_at p.property p.row p.column
 
 abbrev pub place_of : Sizes → Cell → ℕ
 place_of s c = (c.property * s.rows + c.row) * s.columns + c.column

@@ -1,9 +1,9 @@
 // Opening a book, entering an amount and adding a term.
 ghost use Rattle.std.specs.Prelude.{◌≡◌, Some, None, Err, MatchResult};
-ghost use Rattle.paper.specs.Books.{opened, with_entry, with_last_term, cell_at};
+ghost use Rattle.paper.specs.Books.{opened, with_entry, with_last_term};
 ghost use Rattle.book.specs.declared.faults.Origin.TheVariants.{OfBook};
-ghost use Rattle.book.specs.Grounds.{fault_at, at_place};
-ghost use Rattle.book.specs.Stored.{book_of, term_of};
+ghost use Rattle.book.specs.Grounds.{fault_at};
+ghost use Rattle.book.specs.Stored.{book_of, cell_of, term_of};
 ghost use Rattle.book.specs.Keying.{sizes_fault, entry_fault, term_fault};
 
 use crate::faults::{Fault, Ground, Origin, Place};
@@ -13,19 +13,10 @@ use crate::rules::{RuleTable, Term};
 // The largest entry of either sign, in hundredths.
 const ENTRY_LIMIT: i64 = 1_000_000_000;
 
-fn declined<T>(ground: Ground, property: usize, row: usize, column: usize) -> Result<T, Fault>
-    ensures { result ≡ Err (fault_at OfBook (at_place property row column) 0 ground) }
+fn declined<T>(ground: Ground, place: Place) -> Result<T, Fault>
+    ensures { result ≡ Err (fault_at OfBook place 0 ground) }
 {
-    Err(Fault {
-        ground,
-        origin: Origin::OfBook,
-        place: Place {
-            property,
-            row,
-            column,
-        },
-        layers: 0,
-    })
+    Err(Fault::new(ground, Origin::OfBook, place))
 }
 
 impl Book {
@@ -40,17 +31,18 @@ impl Book {
             rows,
             columns,
         } = sizes;
+        let nowhere = Place::default();
         if properties < 1 || properties > 4 {
-            return declined(Ground::SizesOutside, 0, 0, 0);
+            return declined(Ground::SizesOutside, nowhere);
         }
         if rows < 1 || rows > 16 {
-            return declined(Ground::SizesOutside, 0, 0, 0);
+            return declined(Ground::SizesOutside, nowhere);
         }
         if columns < 1 || columns > 12 {
-            return declined(Ground::SizesOutside, 0, 0, 0);
+            return declined(Ground::SizesOutside, nowhere);
         }
         if rows < columns {
-            return declined(Ground::SizesOutside, 0, 0, 0);
+            return declined(Ground::SizesOutside, nowhere);
         }
         let rules = RuleTable::empty();
         Ok(Book {
@@ -61,30 +53,30 @@ impl Book {
     }
 
     // Replaces one observed amount.
-    pub fn enter(&mut self, m: usize, i: usize, k: usize, amount: i64) -> Result<(), Fault>
+    pub fn enter(&mut self, at: Place, amount: i64) -> Result<(), Fault>
         ensures { MatchResult result
-            (λ _. (entry_fault (book_of self.old) m i k amount ≡ None)
-            × (book_of self.new ≡ with_entry (book_of self.old) (cell_at m i k) amount))
-            (λ e. (entry_fault (book_of self.old) m i k amount ≡ Some e)
+            (λ _. (entry_fault (book_of self.old) at amount ≡ None)
+            × (book_of self.new ≡ with_entry (book_of self.old) (cell_of at) amount))
+            (λ e. (entry_fault (book_of self.old) at amount ≡ Some e)
             × (book_of self.new ≡ book_of self.old)) }
     {
-        if m >= self.sizes.properties {
-            return declined(Ground::NoProperty, m, i, k);
+        if at.property >= self.sizes.properties {
+            return declined(Ground::NoProperty, at);
         }
-        if i >= self.sizes.rows {
-            return declined(Ground::NoRow, m, i, k);
+        if at.row >= self.sizes.rows {
+            return declined(Ground::NoRow, at);
         }
-        if k >= self.sizes.columns {
-            return declined(Ground::NoColumn, m, i, k);
+        if at.column >= self.sizes.columns {
+            return declined(Ground::NoColumn, at);
         }
-        if i + k >= self.sizes.rows {
-            return declined(Ground::NotObserved, m, i, k);
+        if at.row + at.column >= self.sizes.rows {
+            return declined(Ground::NotObserved, at);
         }
         if amount < -ENTRY_LIMIT || amount > ENTRY_LIMIT {
-            return declined(Ground::EntryLimit, m, i, k);
+            return declined(Ground::EntryLimit, at);
         }
-        let at = self.sizes.row_start(m, i) + k;
-        self.amounts[at] = amount;
+        let place = self.sizes.row_start(at.property, at.row) + at.column;
+        self.amounts[place] = amount;
         Ok(())
     }
 
@@ -96,20 +88,24 @@ impl Book {
             (λ e. (term_fault (book_of self.old) m term ≡ Some e)
             × (book_of self.new ≡ book_of self.old)) }
     {
+        let at = Place {
+            property: m,
+            ..Place::default()
+        };
         if m >= self.sizes.properties || term.property >= self.sizes.properties {
-            return declined(Ground::NoProperty, m, 0, 0);
+            return declined(Ground::NoProperty, at);
         }
         if term.shift > 15 {
-            return declined(Ground::ShiftOutside, m, 0, 0);
+            return declined(Ground::ShiftOutside, at);
         }
         if term.reach > 2 {
-            return declined(Ground::NoReach, m, 0, 0);
+            return declined(Ground::NoReach, at);
         }
         if term.coefficient < -100 || term.coefficient > 100 || term.coefficient == 0 {
-            return declined(Ground::CoefficientOutside, m, 0, 0);
+            return declined(Ground::CoefficientOutside, at);
         }
         if self.rules.records[m].is_full() {
-            return declined(Ground::RuleFull, m, 0, 0);
+            return declined(Ground::RuleFull, at);
         }
         self.rules.add(m, term);
         Ok(())

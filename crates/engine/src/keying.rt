@@ -1,12 +1,12 @@
 // The calls of a draft.
 ghost use Rattle.std.specs.Prelude.{◌≡◌, Some, None, MatchResult};
-ghost use Rattle.paper.specs.Books.{opened, with_entry, with_last_term, cell_at};
-ghost use Rattle.book.specs.Stored.{term_of};
+ghost use Rattle.paper.specs.Books.{opened, with_entry, with_last_term};
+ghost use Rattle.book.specs.Stored.{cell_of, term_of};
 ghost use Rattle.book.specs.Keying.{sizes_fault, entry_fault, term_fault};
 ghost use Rattle.engine.specs.Held.{of_draft, of_closed};
 
 use crate::states::{Closed, Draft};
-use book::faults::Fault;
+use book::faults::{Fault, Place};
 use book::kinds::{Book, Sizes};
 use book::rules::Term;
 
@@ -22,20 +22,14 @@ impl Draft {
     }
 
     // Replaces the observed amount of one cell; a refusal changes nothing.
-    pub fn enter(
-        &mut self,
-        property: usize,
-        row: usize,
-        column: usize,
-        amount: i64,
-    ) -> Result<(), Fault>
+    pub fn enter(&mut self, at: Place, amount: i64) -> Result<(), Fault>
         ensures { MatchResult result
-            (λ _. (entry_fault (of_draft self.old) property row column amount ≡ None)
-            × (of_draft self.new ≡ with_entry (of_draft self.old) (cell_at property row column) amount))
-            (λ e. (entry_fault (of_draft self.old) property row column amount ≡ Some e)
+            (λ _. (entry_fault (of_draft self.old) at amount ≡ None)
+            × (of_draft self.new ≡ with_entry (of_draft self.old) (cell_of at) amount))
+            (λ e. (entry_fault (of_draft self.old) at amount ≡ Some e)
             × (of_draft self.new ≡ of_draft self.old)) }
     {
-        self.book.enter(property, row, column, amount)
+        self.book.enter(at, amount)
     }
 
     // Adds a term last in the rule of one property; a refusal changes nothing.

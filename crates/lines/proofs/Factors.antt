@@ -1,19 +1,24 @@
 -- What the laws of sources and forms give for a factor question: answers cover, and ceiling refusals are excused.
-use Rattle.std.proofs.Common.{◌≡◌, ℕ, ◌+◌, ◌*◌, ◌<◌, true, false, cond, List, [], ◌∷◌, ◌++◌, map, nat_abs, Some, None, Ok, Err, Option, Result, sym, refl, ap, ◌∙◌, subst, inl, inr, ⊎_elim, arith}
-use Rattle.std.proofs.lemmas.Bool.{cases_Bool}
+use Rattle.std.proofs.Common.{◌≡◌, ℕ, ◌+◌, ◌*◌, ◌<◌, Bool, true, false, cond, List, [], ◌∷◌, ◌++◌, map, ℤ, nat_abs, Some, None, Ok, Err, Option, Result, MatchResult, sym, refl, inl, inr, arith}
 use Rattle.algebra.specs.Interval.{Ends}
 use Rattle.paper.specs.Numbers.{in_ten_millionths, factor_inside, factor_ceiling, amount_ceiling, Covers}
-use Rattle.paper.specs.Forms.{Form, Lawful}
+use Rattle.paper.specs.Forms.{Lawful}
 use Rattle.paper.specs.Books.{Book}
 use Rattle.paper.specs.Sources.{Cause, no_property, no_column, negative_exposure, amount_past, Step, Meaning, factor, cause, fraction_of}
 use Rattle.paper.specs.Laws.{Answered, Each, RightCause, Sound}
 use Rattle.paper.proofs.Covering.{passing, factor_past}
+use Rattle.forms.specs.Told.{told}
 use Rattle.book.specs.declared.faults.Fault.{Fault}
 use Rattle.book.specs.declared.faults.Ground.TheVariants.{FactorCeiling}
 use Rattle.book.specs.declared.faults.Origin.TheVariants.{OfForm}
 use Rattle.book.specs.Grounds.{at_place, fault_at}
 use Rattle.sources.specs.Asked.{answer_in, unless_past, first_past, cause_fault, counted}
-use Rattle.lines.specs.Line.{PaperStep, Reading, factor_step, cause_steps, meaning_steps, factor_allowance, SomeOf, Passing, CeilingExcused}
+use Rattle.engine.specs.Held.{pair_ends}
+use Rattle.lines.specs.Line.{Reading, factor_step, cause_steps, meaning_steps, factor_allowance, SomeOf, Passing, CeilingExcused, Stands}
+use Rattle.lines.specs.declared.calls.Call.TheVariants.{AskFactor}
+use Rattle.lines.specs.declared.calls.State.TheVariants.{Closed}
+use Rattle.lines.specs.declared.calls.Outcome.{Outcome}
+use Rattle.lines.specs.declared.calls.Outcome.TheVariants.{Between, Refused}
 
 -- ---- lists of steps
 last_of : {A : Type 0} (P : A → Type 0) (xs : List A) (x : A) → Each P (xs ++ (x ∷ [])) → P x
@@ -25,83 +30,59 @@ some_left P [] ys h = absurd h
 some_left P (x ∷ xs) ys (inl h) = inl h
 some_left P (x ∷ xs) ys (inr h) = inr (some_left P xs ys h)
 
-some_right : {A : Type 0} (P : A → Type 0) (xs ys : List A) → SomeOf P ys → SomeOf P (xs ++ ys)
-some_right P [] ys h = h
-some_right P (x ∷ xs) ys h = inr (some_right P xs ys h)
+some_last : {A : Type 0} (P : A → Type 0) (xs : List A) (x : A) → P x → SomeOf P (xs ++ (x ∷ []))
+some_last P [] x h = inl h
+some_last P (y ∷ ys) x h = inr (some_last P ys x h)
 
-ok_err : {V E : Type 0} {v : V} {e : E} → ◌≡◌ {A = Result V E} (Ok v) (Err e) → ⊥
-ok_err p = let z : ◌≡◌ {A = ℕ} 0 1 = cc in omega arith
-
-err_same : {V E : Type 0} {e f : E} → ◌≡◌ {A = Result V E} (Err e) (Err f) → e ≡ f
-err_same p = cc
-
-ok_same : {V E : Type 0} {e f : V} → ◌≡◌ {A = Result V E} (Ok e) (Ok f) → e ≡ f
-ok_same p = cc
-
-module _ (R : Reading) (lawful : Lawful R.form) (m k : ℕ) where
-  abbrev F : Form
-  F = R.form
-
+module _ (R : Reading) (lawful : Lawful R.form) (b : Book) (m k : ℕ) where
   abbrev Step-answered : Step → Type 0
-  Step-answered s = Answered F R.depth s.value (s.ends F)
+  Step-answered s = Answered R.form R.depth s.value (s.ends R.form)
 
-  -- ---- answers
-  given : (before : List Step) (s : Step) (o : Option ℕ) (e : Ends) → unless_past m k o (Ok (s.ends F)) ≡ Ok e → s.ends F ≡ e
-  given before s (Some n) e p = absurd (ok_err (sym p))
-  given before s None e p = ok_same p
-
-  pub factor_covered : (b : Book) (M : Meaning) → Sound R.depth b m k M → (e : Ends) → answer_in F m k M ≡ Ok e →
-      Covers (in_ten_millionths (fraction_of M)) (factor_allowance R) e
-  factor_covered b (factor before s) sound e p =
-      subst (λ (x : Ends). Covers (in_ten_millionths s.value) (factor_allowance R) x) (given before s (first_past F (before ++ (s ∷ []))) e p)
-      (last_of Step-answered before s (sound.steps F lawful)).covers
-  factor_covered b (cause before n c) sound e p = absurd (never (first_past F before) p)
-    where
-      never : (o : Option ℕ) → unless_past m k o (Err (cause_fault m k n c)) ≡ Ok e → ⊥
-      never (Some x) q = ok_err (sym q)
-      never None q = ok_err (sym q)
-
-  -- ---- refusals
   abbrev steep : ℕ → Fault
   steep n = fault_at OfForm (at_place m 0 k) (counted n) FactorCeiling
 
   -- the step that passes the factor ceiling in the form passes it on paper, with its allowance
-  step_past : (n : ℕ) (s : Step) → Step-answered s → factor_inside (s.ends F) ≡ false → Passing (steep n) (factor_step R m k s)
+  step_past : (n : ℕ) (s : Step) → Step-answered s → factor_inside (s.ends R.form) ≡ false → Passing (steep n) (factor_step R m k s)
   step_past n s a out =
-      record { ground = refl; place = refl; passes = passing (in_ten_millionths s.value) (factor_allowance R) factor_ceiling (s.ends F) a.covers (factor_past (s.ends F) out) }
+      record { ground = refl; place = refl; passes = passing (in_ten_millionths s.value) (factor_allowance R) factor_ceiling (s.ends R.form) a.covers (factor_past (s.ends R.form) out) }
 
-  steps_past : (xs : List Step) (n : ℕ) → Each Step-answered xs → first_past F xs ≡ Some n → (l : ℕ) → SomeOf (Passing (steep l)) (map (factor_step R m k) xs)
-  steps_past [] n a p l = absurd (let z : ◌≡◌ {A = ℕ} 0 1 = cc in omega arith)
-  steps_past (s ∷ ss) n a p l =
-      ⊎_elim (λ (t : factor_inside (s.ends F) ≡ true). inr (steps_past ss n a.1 (sym (ap (λ b. cond b (first_past F ss) (Some s.above)) t) ∙ p) l))
-      (λ (t : factor_inside (s.ends F) ≡ false). inl (step_past l s a.0 t))
-      (cases_Bool (factor_inside (s.ends F)))
+  steps_past : (n : ℕ) (xs : List Step) → Each Step-answered xs → first_past R.form xs ≡ Some n → (l : ℕ) → SomeOf (Passing (steep l)) (map (factor_step R m k) xs)
+  steps_past n [] a e l = cc
+  steps_past n (s ∷ ss) a e l = go (factor_inside (s.ends R.form)) refl e (λ e. steps_past n ss a.1 e l)
+    where
+      go : (t : Bool) → factor_inside (s.ends R.form) ≡ t → cond t (first_past R.form ss) (Some s.above) ≡ Some n →
+          (first_past R.form ss ≡ Some n → SomeOf (Passing (steep l)) (map (factor_step R m k) ss)) → SomeOf (Passing (steep l)) (map (factor_step R m k) (s ∷ ss))
+      go true t e later = inr (later e)
+      go false t e later = inl (step_past l s a.0 t)
 
-  caused : (c : Cause) (before : List Step) (n : ℕ) (b : Book) → RightCause b m k before c → CeilingExcused (cause_fault m k n c) (cause_steps m k c)
-  caused no_property before n b r (inl e) = absurd (omega arith)
-  caused no_property before n b r (inr e) = absurd (omega arith)
-  caused no_column before n b r (inl e) = absurd (omega arith)
-  caused no_column before n b r (inr e) = absurd (omega arith)
-  caused (negative_exposure i) before n b r (inl e) = absurd (omega arith)
-  caused (negative_exposure i) before n b r (inr e) = absurd (omega arith)
-  caused (amount_past i a) before n b r h = inl (record { ground = refl; place = refl; passes = over (nat_abs a) r.1 })
+  caused : (before : List Step) (n : ℕ) (c : Cause) → RightCause b m k before c →
+      CeilingExcused (cause_fault m k n c) (map (factor_step R m k) before ++ cause_steps m k c)
+  caused before n no_property r = λ h. absurd (omega arith)
+  caused before n no_column r = λ h. absurd (omega arith)
+  caused before n (negative_exposure i) r = λ h. absurd (omega arith)
+  caused before n (amount_past i a) r = λ _. some_last (Passing (cause_fault m k n (amount_past i a))) (map (factor_step R m k) before) _ (record { ground = refl; place = refl; passes = over (nat_abs a) r.1 })
     where
       over : (n : ℕ) → amount_ceiling < n → amount_ceiling * 1 < n + 0 * 1
       over n h = omega arith
 
-  excused_same : (f g : Fault) (ss : List PaperStep) → f ≡ g → CeilingExcused f ss → CeilingExcused g ss
-  excused_same f g ss e h = subst (λ (x : Fault). CeilingExcused x ss) e h
+  -- what an answer owes: ends cover the fraction, and a fault is excused
+  abbrev Owed : Meaning → Result Ends Fault → Type 0
+  Owed M r = MatchResult r (Covers (in_ten_millionths (fraction_of M)) (factor_allowance R)) (λ f. CeilingExcused f (meaning_steps R m k M))
 
-  pub factor_excused : (b : Book) (M : Meaning) → Sound R.depth b m k M → (f : Fault) → answer_in F m k M ≡ Err f → CeilingExcused f (meaning_steps R m k M)
-  factor_excused b (factor before s) sound f p = go (first_past F (before ++ (s ∷ []))) refl p
+  owed : (M : Meaning) → Sound R.depth b m k M → Owed M (answer_in R.form m k M)
+  owed (factor before s) sound = go (first_past R.form (before ++ (s ∷ []))) refl
     where
-      go : (o : Option ℕ) → first_past F (before ++ (s ∷ [])) ≡ o → unless_past m k o (Ok (s.ends F)) ≡ Err f → CeilingExcused f (map (factor_step R m k) (before ++ (s ∷ [])))
-      go (Some n) e q = excused_same (steep n) f _ (err_same q) (λ h. steps_past (before ++ (s ∷ [])) n (sound.steps F lawful) e n)
-      go None e q = absurd (ok_err q)
-  factor_excused b (cause before n c) sound f p = go (first_past F before) refl p
+      go : (o : Option ℕ) → first_past R.form (before ++ (s ∷ [])) ≡ o → Owed (factor before s) (unless_past m k o (Ok (s.ends R.form)))
+      go (Some n) e = λ h. steps_past n (before ++ (s ∷ [])) (sound.steps R.form lawful) e n
+      go None e = (last_of Step-answered before s (sound.steps R.form lawful)).covers
+  owed (cause before n c) sound = go (first_past R.form before) refl
     where
-      go : (o : Option ℕ) → first_past F before ≡ o → unless_past m k o (Err (cause_fault m k n c)) ≡ Err f → CeilingExcused f (map (factor_step R m k) before ++ cause_steps m k c)
-      go (Some l) e q = excused_same (steep l) f _ (err_same q) (λ h. some_left (Passing (steep l)) (map (factor_step R m k) before) (cause_steps m k c) (steps_past before l (sound.steps F lawful) e l))
-      go None e q =
-          excused_same (cause_fault m k n c) f _ (err_same q)
-          (λ h. some_right (Passing (cause_fault m k n c)) (map (factor_step R m k) before) (cause_steps m k c) (caused c before n b sound.grounds h))
+      go : (o : Option ℕ) → first_past R.form before ≡ o → Owed (cause before n c) (unless_past m k o (Err (cause_fault m k n c)))
+      go (Some l) e = λ h. some_left (Passing (steep l)) (map (factor_step R m k) before) (cause_steps m k c) (steps_past l before (sound.steps R.form lawful) e l)
+      go None e = caused before n c sound.grounds
+
+  -- the outcome that the answer of a source becomes
+  pub factor_stands : Sound R.depth b m k (R.means b m k) → (r : Result (ℤ × ℤ) Fault) (o : Outcome) → told pair_ends r ≡ answer_in R.form m k (R.means b m k) →
+      MatchResult r (λ p. o ≡ Between p.0 p.1) (λ f. o ≡ Refused f) → Stands R (record { state = Closed; book = b }) (AskFactor m k) o
+  factor_stands sound (Ok p) o e is = rw is (refl, record { exact = sym e; covers = rw (← e) at (owed (R.means b m k) sound) })
+  factor_stands sound (Err f) o e is = rw is (refl, sym e, rw (← e) at (owed (R.means b m k) sound))

@@ -3,7 +3,7 @@ use Rattle.std.specs.Prelude.{◌≡◌, ℕ, ◌*◌, min, Bool, true, false, �
 use Rattle.algebra.specs.Interval.{Ends, Frac}
 use Rattle.paper.specs.Numbers.{both, whole, in_ten_millionths, Covers, Passes, amount_ceiling, factor_ceiling}
 use Rattle.paper.specs.Forms.{Form}
-use Rattle.paper.specs.Books.{Book, cell_at, opened, with_entry, with_last_term}
+use Rattle.paper.specs.Books.{Book, opened, with_entry, with_last_term}
 use Rattle.paper.specs.Sources.{Cause, no_property, no_column, negative_exposure, amount_past, Step, Meaning, factor, cause, fraction_of}
 use Rattle.book.specs.declared.faults.Fault.{Fault}
 use Rattle.book.specs.declared.faults.Ground.{Ground}
@@ -11,7 +11,7 @@ use Rattle.book.specs.declared.faults.Ground.TheVariants.{AmountCeiling, FactorC
 use Rattle.book.specs.declared.faults.Place.{Place}
 use Rattle.book.specs.declared.kinds.Sizes.{Sizes}
 use Rattle.book.specs.Grounds.{number, at_place}
-use Rattle.book.specs.Stored.{term_of}
+use Rattle.book.specs.Stored.{cell_of, term_of}
 use Rattle.book.specs.Keying.{entry_fault, term_fault}
 use Rattle.sources.specs.Asked.{answer_in}
 use Rattle.engine.specs.Held.{of_draft, of_closed}
@@ -34,12 +34,12 @@ abbrev pub opening : Sizes → Paper
 opening s = record { state = Drafted; book = opened s.properties s.rows s.columns }
 
 abbrev pub takes : State → Call → Bool
-takes Drafted (Enter m i k a) = true
+takes Drafted (Enter p a) = true
 takes Drafted (AddTerm m t) = true
 takes Drafted Close = true
 takes Drafted (AskFactor m k) = false
 takes Drafted Reopen = false
-takes Closed (Enter m i k a) = false
+takes Closed (Enter p a) = false
 takes Closed (AddTerm m t) = false
 takes Closed Close = false
 takes Closed (AskFactor m k) = true
@@ -54,18 +54,18 @@ accepted (Refused f) = false
 
 -- an accepted entry replaces its amount, an accepted term goes last in its rule, and nothing else changes the book
 abbrev pub changed : Book → Call → Book
-changed b (Enter m i k a) = with_entry b (cell_at m i k) a
+changed b (Enter p a) = with_entry b (cell_of p) a
 changed b (AddTerm m t) = with_last_term b m (term_of t)
 changed b Close = b
 changed b (AskFactor m k) = b
 changed b Reopen = b
 
 abbrev pub state_after : State → Call → State
-state_after p (Enter m i k a) = p
-state_after p (AddTerm m t) = p
-state_after p Close = Closed
-state_after p (AskFactor m k) = p
-state_after p Reopen = Drafted
+state_after s (Enter p a) = s
+state_after s (AddTerm m t) = s
+state_after s Close = Closed
+state_after s (AskFactor m k) = s
+state_after s Reopen = Drafted
 
 abbrev pub paper_next : Paper → Call → Bool → Paper
 paper_next s call true = record { state = state_after s.state call; book = changed s.book call }
@@ -112,7 +112,7 @@ meaning_steps R m k (factor before s) = map (factor_step R m k) (before ++ (s �
 meaning_steps R m k (cause before n c) = map (factor_step R m k) before ++ cause_steps m k c
 
 abbrev pub steps : Reading → Book → Call → List PaperStep
-steps R b (Enter m i k a) = []
+steps R b (Enter p a) = []
 steps R b (AddTerm m t) = []
 steps R b Close = []
 steps R b (AskFactor m k) = meaning_steps R m k (R.means b m k)
@@ -121,7 +121,7 @@ steps R b Reopen = []
 -- ---- what an outcome says
 -- a call that is accepted without an answer
 abbrev pub Accepts : Book → Call → Type 0
-Accepts b (Enter m i k a) = entry_fault b m i k a ≡ None
+Accepts b (Enter p a) = entry_fault b p a ≡ None
 Accepts b (AddTerm m t) = term_fault b m t ≡ None
 Accepts b Close = Unit {0}
 Accepts b (AskFactor m k) = ⊥
@@ -133,7 +133,7 @@ pub record AnswersFactor (R : Reading) (b : Book) (m k : ℕ) (e : Ends) : Type 
   pub covers : Covers (in_ten_millionths (fraction_of (R.means b m k))) (factor_allowance R) e
 
 abbrev pub Answers : Reading → Book → Call → Ends → Type 0
-Answers R b (Enter m i k a) e = ⊥
+Answers R b (Enter p a) e = ⊥
 Answers R b (AddTerm m t) e = ⊥
 Answers R b Close e = ⊥
 Answers R b (AskFactor m k) e = AnswersFactor R b m k e
@@ -141,13 +141,13 @@ Answers R b Reopen e = ⊥
 
 -- the ground that the rules give
 abbrev pub Refuses : Reading → Book → Call → Fault → Type 0
-Refuses R b (Enter m i k a) f = entry_fault b m i k a ≡ Some f
+Refuses R b (Enter p a) f = entry_fault b p a ≡ Some f
 Refuses R b (AddTerm m t) f = term_fault b m t ≡ Some f
 Refuses R b Close f = ⊥
 Refuses R b (AskFactor m k) f = answer_in R.form m k (R.means b m k) ≡ Err f
 Refuses R b Reopen f = ⊥
 
--- some element of the list has the property
+-- some element of the list has the property; not std's Any, since this is ⊥ of no steps, which the check closes alone
 abbrev pub SomeOf : {A : Type 0} → (A → Type 0) → List A → Type 0
 SomeOf P [] = ⊥
 SomeOf P (x ∷ xs) = P x ⊎ SomeOf P xs

@@ -1,36 +1,29 @@
-// The calls of a line, and what each comes to.
-use book::faults::Fault;
+// The calls of a line, and what each comes to. Plain enums: a line lies in lent slices with no heap, and its law goes by
+// cases.
+ghost use Rattle.std.specs.Prelude.{◌≡◌, MatchResult};
+ghost use Rattle.lines.specs.declared.calls.Outcome.TheVariants.{Accepted, Between, Refused};
+
+use book::faults::{Fault, Place};
 use book::rules::Term;
 use engine::states::{Closed as ClosedBook, Draft};
 
-#[derive(Clone, Copy)]
+#[derive(Clone, Copy, PartialEq, Eq, Debug)]
 pub enum Call {
-    Enter {
-        property: usize,
-        row: usize,
-        column: usize,
-        amount: i64,
-    },
-    AddTerm {
-        property: usize,
-        term: Term,
-    },
+    Enter { at: Place, amount: i64 },
+    AddTerm { property: usize, term: Term },
     Close,
-    AskFactor {
-        property: usize,
-        column: usize,
-    },
+    AskFactor { property: usize, column: usize },
     Reopen,
 }
 
-// Which calls a book takes goes by its state.
+// Which calls a book takes goes by its state. An outcome and the law name the state alone, with no book in it.
 #[derive(Clone, Copy, PartialEq, Eq, Debug)]
 pub enum State {
     Drafted,
     Closed,
 }
 
-#[derive(Clone, Copy)]
+#[derive(Clone, Copy, PartialEq, Eq, Debug)]
 pub enum Outcome {
     // the book's state does not take the call
     NotTaken(State),
@@ -38,6 +31,30 @@ pub enum Outcome {
     // the lower and the upper end of what was asked
     Between(i64, i64),
     Refused(Fault),
+}
+
+// What a call that changes the book comes to.
+impl From<Result<(), Fault>> for Outcome {
+    ghost from_gives = { λ r o. MatchResult r (λ _. o ≡ Accepted) (λ f. o ≡ Refused f) };
+
+    fn from(done: Result<(), Fault>) -> Outcome {
+        match done {
+            Ok(()) => Outcome::Accepted,
+            Err(fault) => Outcome::Refused(fault),
+        }
+    }
+}
+
+// What a question comes to.
+impl From<Result<(i64, i64), Fault>> for Outcome {
+    ghost from_gives = { λ r o. MatchResult r (λ p. o ≡ Between p.0 p.1) (λ f. o ≡ Refused f) };
+
+    fn from(answer: Result<(i64, i64), Fault>) -> Outcome {
+        match answer {
+            Ok((low, high)) => Outcome::Between(low, high),
+            Err(fault) => Outcome::Refused(fault),
+        }
+    }
 }
 
 // A book in the state that the calls so far have left it in.

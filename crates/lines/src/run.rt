@@ -11,28 +11,17 @@ use forms::ProjectingForm;
 use sources::source::FactorSource;
 
 // One call on a draft.
-fn draft_step(draft: Draft, call: Call) -> (AnyBook, Outcome)
+fn draft_step(mut draft: Draft, call: Call) -> (AnyBook, Outcome)
     ensures next { paper_of result.0 ≡ paper_next (paper_of (AnyBook.InDraft draft)) call (accepted result.1) }
     ensures stands { (R : Reading) → Stands R (paper_of (AnyBook.InDraft draft)) call result.1 }
 {
-    let mut draft = draft;
-    match call {
-        Call::Enter {
-            property,
-            row,
-            column,
-            amount,
-        } => match draft.enter(property, row, column, amount) {
-            Ok(()) => (AnyBook::InDraft(draft), Outcome::Accepted),
-            Err(fault) => (AnyBook::InDraft(draft), Outcome::Refused(fault)),
-        },
-        Call::AddTerm { property, term } => match draft.add_term(property, term) {
-            Ok(()) => (AnyBook::InDraft(draft), Outcome::Accepted),
-            Err(fault) => (AnyBook::InDraft(draft), Outcome::Refused(fault)),
-        },
-        Call::Close => (AnyBook::InClosed(draft.close()), Outcome::Accepted),
-        _ => (AnyBook::InDraft(draft), Outcome::NotTaken(State::Drafted)),
-    }
+    let outcome = match call {
+        Call::Enter { at, amount } => draft.enter(at, amount).into(),
+        Call::AddTerm { property, term } => draft.add_term(property, term).into(),
+        Call::Close => return (AnyBook::InClosed(draft.close()), Outcome::Accepted),
+        Call::AskFactor { .. } | Call::Reopen => Outcome::NotTaken(State::Drafted),
+    };
+    (AnyBook::InDraft(draft), outcome)
 }
 
 // One call on a closed book.
@@ -42,32 +31,34 @@ fn closed_step<F: ProjectingForm, S: FactorSource>(
     call: Call,
 ) -> (AnyBook, Outcome)
     ensures next { paper_of result.0 ≡ paper_next (paper_of (AnyBook.InClosed closed)) call (accepted result.1) }
-    ensures stands { Stands (reading (S.FactorSource.means source.now) (S.FactorSource.depth source.now) F.ProjectingForm.form) (paper_of (AnyBook.InClosed closed)) call result.1 }
+    ensures stands { Stands (reading (S.means source.now) (S.depth source.now) F.form)
+        (paper_of (AnyBook.InClosed closed)) call result.1 }
 {
-    match call {
-        Call::AskFactor { property, column } => match closed.factor::<F, S>(
-            source, property, column,
-        ) {
-            Ok((low, high)) => (AnyBook::InClosed(closed), Outcome::Between(low, high)),
-            Err(fault) => (AnyBook::InClosed(closed), Outcome::Refused(fault)),
-        },
-        Call::Reopen => (AnyBook::InDraft(closed.reopen()), Outcome::Accepted),
-        _ => (AnyBook::InClosed(closed), Outcome::NotTaken(State::Closed)),
-    }
+    let outcome = match call {
+        Call::AskFactor { property, column } => {
+            closed.factor::<F, _>(source, property, column).into()
+        }
+        Call::Reopen => return (AnyBook::InDraft(closed.reopen()), Outcome::Accepted),
+        Call::Enter { .. } | Call::AddTerm { .. } | Call::Close => {
+            Outcome::NotTaken(State::Closed)
+        }
+    };
+    (AnyBook::InClosed(closed), outcome)
 }
 
-// One call: what the state takes is done, and what it does not take changes nothing.
+// One call: what the state takes is done, and what it does not take changes nothing. By match on the state: a closure or
+// a dyn for each call would need a heap, or hide the call from the law.
 fn step<F: ProjectingForm, S: FactorSource>(
     source: &S,
     book: AnyBook,
     call: Call,
 ) -> (AnyBook, Outcome)
     ensures next { paper_of result.0 ≡ paper_next (paper_of book) call (accepted result.1) }
-    ensures stands { Stands (reading (S.FactorSource.means source.now) (S.FactorSource.depth source.now) F.ProjectingForm.form) (paper_of book) call result.1 }
+    ensures stands { Stands (reading (S.means source.now) (S.depth source.now) F.form) (paper_of book) call result.1 }
 {
     match book {
         AnyBook::InDraft(draft) => draft_step(draft, call),
-        AnyBook::InClosed(closed) => closed_step::<F, S>(source, closed, call),
+        AnyBook::InClosed(closed) => closed_step::<F, _>(source, closed, call),
     }
 }
 
@@ -80,17 +71,15 @@ pub fn run<F: ProjectingForm, S: FactorSource>(
 ) -> Result<usize, Fault>
     ensures { MatchResult result
         (λ n. (sizes_fault sizes ≡ None)
-        × Ran (reading (S.FactorSource.means source.now) (S.FactorSource.depth source.now) F.ProjectingForm.form)
-        sizes calls.now outcomes.old outcomes.new n)
+        × Ran (reading (S.means source.now) (S.depth source.now) F.form) sizes calls.now outcomes.old outcomes.new n)
         (λ e. (sizes_fault sizes ≡ Some e) × (outcomes.new ≡ outcomes.old)) }
 {
     let draft = Draft::open(sizes)?;
     let mut book = AnyBook::InDraft(draft);
     let room = calls.len().min(outcomes.len());
+    // by index: of outcomes that a zip's iter_mut wrote, a proof knows the number alone
     for j in 0..room {
-        let (next, outcome) = step::<F, S>(source, book, calls[j]);
-        book = next;
-        outcomes[j] = outcome;
+        (book, outcomes[j]) = step::<F, _>(source, book, calls[j]);
     }
     Ok(room)
 }

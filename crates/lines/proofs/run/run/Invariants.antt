@@ -1,9 +1,8 @@
-use Rattle.std.proofs.Common.{◌≡◌, take, drop}
-use Rattle.lines.specs.Line.{LineStands, paper_after, paper_of, reading}
+use Rattle.lines.specs.Line.{paper_of, reading}
+use Rattle.lines.proofs.Lines.{RanSoFar}
 use Rattle.lines.proofs.run.run.Given as goal
 
 abbrev pub invariant-loop-j : goal.invariant-loop-j
 invariant-loop-j g l =
-    (paper_of l.book ≡ paper_after (paper_of l.initial.book) (take l.j l.calls) (take l.j l.outcomes))
-    × LineStands (reading (g.S.FactorSource.means l.source) (g.S.FactorSource.depth l.source) g.F.ProjectingForm.form) (paper_of l.initial.book) (take l.j l.calls) (take l.j l.outcomes)
-    × (drop l.j l.outcomes ≡ drop l.j l.initial.outcomes)
+    let R = reading (g.S.FactorSource.means l.source) (g.S.FactorSource.depth l.source) g.F.ProjectingForm.form in
+    RanSoFar R (paper_of l.initial.book) (paper_of l.book) l.calls l.initial.outcomes l.outcomes l.j
