@@ -25,7 +25,7 @@ pub struct Totals {
 }
 
 impl Totals {
-    // The totals of every row that has the next column observed.
+    // The totals of the rows that have the next column observed.
     pub fn of(question: &Question) -> Result<Totals, Fault>
         ensures value { let q = question.now in let b = book_of q.book.now in
             result ≡ unless_cause q.property q.column (rows_cause b q.property q.column) (totals_through b q.property q.column (seen b q.column)) }

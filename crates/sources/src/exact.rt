@@ -16,7 +16,7 @@ use forms::FormFault;
 use forms::whole::read;
 use gathering::exposure;
 
-// The fault of a source.
+// A fault that arises in a source.
 pub(crate) fn declined(ground: Ground, place: Place) -> Fault
     ensures { result ≡ fault_at OfSource place 0 ground }
 {

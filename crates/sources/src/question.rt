@@ -14,7 +14,7 @@ use book::faults::{Fault, Ground, Place};
 use book::kinds::Book;
 use gathering::row_start;
 
-// The factor of a property from a column to the next, both of them the book's.
+// Asks for the factor of a property from a column to the next; the book has the property and both columns.
 #[derive(Clone, Copy)]
 pub struct Question<'a> {
     pub book: &'a Book,
@@ -24,7 +24,7 @@ pub struct Question<'a> {
 }
 
 impl<'a> Question<'a> {
-    // The question, if the book has the property, and a column after the column.
+    // The question, if the book has the property, and a column after this one.
     pub fn asked_within(
         book: &'a Book,
         property: usize,
