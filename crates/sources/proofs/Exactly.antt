@@ -1,8 +1,10 @@
 -- Exposures of observed cells gathered in whole numbers: exactly the paper's amount, or the first step past the ceiling.
-use Rattle.std.proofs.Common.{◌≡◌, ℕ, zero, suc, ◌+◌, ◌-◌, ◌<◌, ◌≤◌, true, false, cond, ltb, List, [], ◌∷◌, ◌++◌, map, length, get_or, take, ℤ, pos, negsuc, ◌+ℤ◌, ◌*ℤ◌, Some, None, Ok, Err, Option, Result, sym, refl, ap, ◌∙◌, ⊎_elim, arith}
+use Rattle.std.proofs.Common.{◌≡◌, ℕ, zero, suc, ◌+◌, ◌-◌, ◌<◌, ◌≤◌, true, false, cond, ltb, List, [], ◌∷◌, ◌++◌, map, length, get_or, ℤ, pos, negsuc, ◌+ℤ◌, ◌*ℤ◌, Some, None, Ok, Err, Option, Result, sym, refl, ap, ◌∙◌, ⊎_elim, arith}
 use Rattle.std.proofs.lemmas.Int.{ints}
 use Rattle.std.proofs.lemmas.Bool.{cases_lt, cases_Bool}
+use Rattle.std.specs.Prelude.{All}
 use Rattle.std.proofs.lemmas.List.{get_or-map}
+use Rattle.std.proofs.lemmas.List.Elements.{All-head, All-tail}
 use Rattle.algebra.specs.Interval.{Ends}
 use Rattle.paper.specs.Numbers.{point, inside}
 use Rattle.paper.specs.Sums.{Sum, nothing, read, join, multiple, sum_of_ends, multiple_of_ends, exact_of, steps_of, AllRead}
@@ -17,11 +19,11 @@ use Rattle.forms.specs.Held.{whole_ends}
 use Rattle.book.specs.declared.kinds.Sizes.{Sizes}
 use Rattle.book.specs.declared.rules.Term.{Term}
 use Rattle.book.specs.declared.rules.Rule.{Rule}
-use Rattle.book.specs.Limits.{blank}
+use Rattle.book.specs.Limits.{ReadsWithin}
 use Rattle.book.specs.Stored.{place_of, cells, term_of, terms_of, amounts_of}
 use Rattle.book.proofs.Keyed.{Within, within_true}
 use Rattle.book.proofs.Places.{place_in}
-use Rattle.gathering.specs.Laid.{on_sheet}
+use Rattle.gathering.specs.Sheet.{on_sheet}
 
 -- ---- a calculation over exact amounts
 abbrev pub capped : Option ℤ → ℤ → Result Ends FormFault
@@ -117,26 +119,24 @@ module _ (Q : Cell → Type 0) (i k : ℕ) where
   reads_terms so_far [] r e = r
   reads_terms so_far (t ∷ ts) r e = reads_terms (with_term i k so_far t) ts (reads_term so_far t r e.0) e.1
 
--- what holds of a stored term at every place holds of each of the first n
-pub each_first : (P : paper.Term → Type 0) (xs : List Term) (n : ℕ) → ((t : ℕ) → P (term_of (get_or xs t blank))) → Each P (map term_of (take n xs))
-each_first P xs zero h = tt
-each_first P [] (suc n) h = tt
-each_first P (x ∷ xs) (suc n) h = (h 0, each_first P xs n (λ t. h (suc t)))
+-- what holds of each stored term holds of each of the paper's terms
+each_term : (P : paper.Term → Type 0) (ts : List Term) → All (λ t. P (term_of t)) ts → Each P (map term_of ts)
+each_term P [] h = tt
+each_term P (t ∷ ts) h = (All-head (λ u. P (term_of u)) t ts h, each_term P ts (All-tail (λ u. P (term_of u)) t ts h))
 
-module _ (s : Sizes) (amounts : List ℤ) (rule : Rule) (i k : ℕ) (row : i < s.rows) (column : k < s.columns)
-    (own : (t : ℕ) → (get_or rule.terms t blank).property < s.properties) where
+module _ (s : Sizes) (amounts : List ℤ) (rule : Rule) (i k : ℕ) (row : i < s.rows) (column : k < s.columns) (own : ReadsWithin s.properties rule) where
   exposure_within : AllRead (Within s) (with_terms i k nothing (terms_of rule))
   exposure_within =
       reads_terms (Within s) i k nothing (terms_of rule) tt
-      (each_first (Fair (Within s) i k) rule.terms rule.len (λ t h j l. record { property = own t; row = omega arith; column = omega arith }))
+      (each_term (Fair (Within s) i k) rule (λ n d here shift j l. record { property = own n d here; row = omega arith; column = omega arith }))
 
-  module _ (room : cells s ≤ length amounts) (small : (j : ℕ) → inside (point (get_or amounts j (pos 0))) ≡ true) where
+  module _ (room : cells s ≤ length amounts) (small : All (λ a. inside (point a) ≡ true) amounts) where
     read_exact : (c : Cell) → Within s c → on_sheet s (map whole_ends amounts) c ≡ point (amounts_of s amounts c)
     read_exact c w =
         let at = place_of s c in
         let here : at < length amounts = omega (arith, place_in s.properties s.rows s.columns c.property c.row c.column w.property w.row w.column) in
         get_or-map whole_ends amounts at (pos 0) (point (pos 0)) here
-        ∙ ap (λ b. cond b (point (get_or amounts at (pos 0))) (point (pos 0))) (small at)
+        ∙ ap (λ b. cond b (point (get_or amounts at (pos 0))) (point (pos 0))) (small at (pos 0) here)
         ∙ sym (ap (λ b. point (cond b (get_or amounts at (pos 0)) (pos 0))) (within_true s c w))
 
     -- an exposure gathered from a book's own amounts

@@ -1,8 +1,10 @@
 -- A row of an estimate, from what the calls of its function answered.
-use Rattle.std.proofs.Common.{◌≡◌, ℕ, zero, suc, ◌+◌, ◌-◌, ◌*◌, ◌<◌, ◌≤◌, Bool, true, false, cond, [], ◌∷◌, map, length, get_or, ℤ, pos, negsuc, ◌+ℤ◌, nat_abs, ◌≤ℤ◌, Some, None, Ok, Err, Option, Result, sym, refl, ap, ◌∙◌, subst, ⊎_elim, add-one, arith, w64, SFits, to_z, of_z}
+use Rattle.std.proofs.Common.{◌≡◌, ℕ, zero, suc, ◌+◌, ◌-◌, ◌*◌, ◌<◌, ◌≤◌, Bool, true, false, cond, [], ◌∷◌, map, length, get_or, ℤ, pos, negsuc, ◌+ℤ◌, nat_abs, ◌≤ℤ◌, Some, None, Ok, Err, Option, Result, sym, refl, ap, ◌∙◌, subst, ◌⊎◌, inl, inr, List, ⊎_elim, add-one, arith, w64, SFits, to_z, of_z}
 use lib.Signed.{lt_z}
 use Rattle.std.proofs.lemmas.Int.{ints, to_z-of_z}
-use Rattle.std.proofs.lemmas.Bool.{cases_Bool}
+use Rattle.std.specs.Prelude.{All}
+use Rattle.std.proofs.lemmas.List.{get_or_past}
+use Rattle.std.proofs.lemmas.Bool.{cases_Bool, cases_lt}
 use Rattle.algebra.specs.Interval.{Ends}
 use Rattle.paper.specs.Numbers.{Amount, point, inside}
 use Rattle.paper.specs.Sums.{nothing, sum_of_ends}
@@ -16,34 +18,22 @@ use Rattle.forms.specs.Held.{whole_ends}
 use Rattle.book.specs.declared.faults.Fault.{Fault}
 use Rattle.book.specs.declared.kinds.Book.{Book}
 use Rattle.book.specs.Grounds.{at_place, placed}
-use Rattle.book.specs.Limits.{rule_at}
-use Rattle.book.specs.Stored.{book_of, terms_of, in_sizes, place_of}
-use Rattle.book.proofs.Places.{cells_le}
-use Rattle.gathering.specs.Laid.{on_sheet, Laid, Fits}
+use Rattle.book.specs.Limits.{rule_at, IsEntry}
+use Rattle.book.specs.Stored.{book_of, cells, terms_of, in_sizes, place_of}
+use Rattle.gathering.specs.Sheet.{on_sheet}
 use Rattle.sources.specs.Asked.{cause_fault}
 use Rattle.sources.specs.Estimates.{unless_cause, totals_through}
 use Rattle.sources.specs.declared.estimated.Totals.{Totals}
 use Rattle.sources.proofs.Exactly.{capped, step_capped, gathered_exact}
 
-entry_inside : (x : ℤ) → negsuc 999999999 ≤ℤ x → x ≤ℤ pos 1000000000 → inside (point x) ≡ true
-entry_inside x p q = grind (arith, ints)
+entry_inside : (x : ℤ) → IsEntry x → inside (point x) ≡ true
+entry_inside x e = let l = e.low in let h = e.high in grind (arith, ints)
 
--- a book's own amounts are laid out as gathering asks, and its rules fit
-module _ (b : Book) where
-  pub book_laid : 768 ≤ length b.amounts → Laid b.sizes (length b.amounts)
-  book_laid h =
-      let all = cells_le b.sizes.properties b.sizes.rows b.sizes.columns b.few_properties b.few_rows b.few_columns in
-      record { properties = b.few_properties; rows = b.few_rows; columns = b.few_columns; all = omega arith }
-
-  pub book_fits : (m : ℕ) → Fits b.sizes.properties (rule_at b.rules.records m)
-  book_fits m = record { few = b.short m; each = λ t l. record { property = b.own m t; reach = b.reaches m t; low = b.lows m t; high = b.highs m t } }
-
-  pub book_exact : (m i k : ℕ) → i < b.sizes.rows → k < b.sizes.columns → 768 ≤ length b.amounts →
-      evaluated (on_sheet b.sizes (map whole_ends b.amounts)) (with_terms i k nothing (terms_of (rule_at b.rules.records m)))
-      ≡ capped (gathering_past (book_of b) m i k) (exact_exposure (book_of b) m k i)
-  book_exact m i k row column room =
-      gathered_exact b.sizes b.amounts (rule_at b.rules.records m) i k row column (b.own m) (book_laid room).all
-      (λ j. entry_inside (get_or b.amounts j (pos 0)) (b.entries_low j) (b.entries_high j))
+pub book_exact : (b : Book) (m i k : ℕ) → m < length b.rules.records → i < b.sizes.rows → k < b.sizes.columns → cells b.sizes ≤ length b.amounts →
+    evaluated (on_sheet b.sizes (map whole_ends b.amounts)) (with_terms i k nothing (terms_of (rule_at b.rules.records m)))
+    ≡ capped (gathering_past (book_of b) m i k) (exact_exposure (book_of b) m k i)
+book_exact b m i k property row column room =
+    gathered_exact b.sizes b.amounts (rule_at b.rules.records m) i k row column (b.own m [] property) room (λ j d here. entry_inside _ (b.entries j d here))
 
 -- what gathering answers, placed
 module _ (m i k : ℕ) where
@@ -186,11 +176,12 @@ module _ (b : paper.Book) (m k i : ℕ) where
 
 -- ---- bounds
 amount_small : (b : Book) (c : Cell) → nat_abs ((book_of b).amount c) ≤ 1000000000
-amount_small b c = go (in_sizes b.sizes c) (get_or b.amounts (place_of b.sizes c) (pos 0)) (b.entries_low _) (b.entries_high _)
+amount_small b c = go (in_sizes b.sizes c) b.amounts (place_of b.sizes c) (cases_lt (place_of b.sizes c) (length b.amounts)) b.entries
   where
-    go : (t : Bool) (x : ℤ) → negsuc 999999999 ≤ℤ x → x ≤ℤ pos 1000000000 → nat_abs (cond t x (pos 0)) ≤ 1000000000
-    go true x l h = omega (arith, ints)
-    go false x l h = omega arith
+    go : (t : Bool) (xs : List ℤ) (j : ℕ) → (j < length xs) ⊎ (length xs ≤ j) → All IsEntry xs → nat_abs (cond t (get_or xs j (pos 0)) (pos 0)) ≤ 1000000000
+    go true xs j (inl here) all = let e = all j (pos 0) here in omega (arith, ints)
+    go true xs j (inr past) all = rw get_or_past (omega arith)
+    go false xs j o all = omega arith
 
 pub amounts_small : (b : Book) (m k n : ℕ) → nat_abs (next_amounts_through (book_of b) m k n) ≤ 1000000000 * n
 amounts_small b m k zero = omega arith

@@ -11,7 +11,7 @@ ghost use Rattle.sources.specs.Estimates.{unless_cause};
 use book::faults::{Fault, Ground, Origin, Place, Placing};
 use book::kinds::Book;
 use forms::whole::read;
-use gathering::{exposure, row_start};
+use gathering::Sheet;
 
 // The exposure of property m in row i and column k, or the fault of the first step past the ceiling.
 pub fn gathered(book: &Book, m: usize, i: usize, k: usize) -> Result<i64, Fault>
@@ -24,7 +24,9 @@ pub fn gathered(book: &Book, m: usize, i: usize, k: usize) -> Result<i64, Fault>
         row: i,
         column: k,
     };
-    let sum = exposure(&book.amounts, &book.sizes, &book.rules.records[m], i, k).at(place)?;
+    let sum = Sheet::from(book)
+        .exposure(&book.rules.records[m], i, k)
+        .at(place)?;
     Ok(read(&sum))
 }
 
@@ -34,7 +36,7 @@ pub fn following(book: &Book, m: usize, i: usize, k: usize) -> i64
     ensures value { result ≡ next_amount (book_of book.now) m k i }
     ensures entry { (negsuc 999999999 ≤ℤ result) × (result ≤ℤ pos 1000000000) }
 {
-    book.amounts[row_start(&book.sizes, m, i) + (k + 1)]
+    Sheet::from(book).row(m, i)[k + 1]
 }
 
 // An exposure below 0 has no factor.
