@@ -1,12 +1,13 @@
 // Exposures gathered in each summing form.
-ghost use Rattle.gathering.specs.Laid.{Fits};
+ghost use Rattle.std.specs.Prelude.{◌≡◌};
+ghost use Rattle.book.specs.Limits.{ReadsWithin};
 
 use book::kinds::Sizes;
 use book::rules::{Rule, Term};
 use forms::centre::CentreRadius;
 use forms::two_ends::TwoEnds;
 use forms::{FormFault, SummingForm};
-use gathering::exposure;
+use gathering::Sheet;
 use std::test::Fail;
 
 const SIZES: Sizes = Sizes {
@@ -17,7 +18,7 @@ const SIZES: Sizes = Sizes {
 
 // Twice the row before, less the row itself.
 fn rule() -> Rule
-    ensures { Fits 1 result }
+    ensures { ReadsWithin 1 result }
 {
     let back = Term {
         property: 0,
@@ -31,9 +32,19 @@ fn rule() -> Rule
         reach: 2,
         coefficient: -1,
     };
-    Rule {
-        len: 2,
-        terms: [back, own, own, own, own, own],
+    let mut rule = Rule::empty();
+    rule.push(back);
+    rule.push(own);
+    rule
+}
+
+// The cells of one property, row by row.
+fn sheet<F>(cells: &[F; 4]) -> Sheet<'_, F>
+    ensures { result.sizes ≡ SIZES }
+{
+    Sheet {
+        sizes: SIZES,
+        amounts: cells,
     }
 }
 
@@ -41,7 +52,7 @@ fn rule() -> Rule
 #[test]
 fn whole_numbers(rt: HostRuntime) -> Result<(), Fail> {
     let cells: [i64; 4] = [30, 40, 50, 0];
-    match exposure(&cells, &SIZES, &rule(), 1, 0) {
+    match sheet(&cells).exposure(&rule(), 1, 0) {
         Ok(sum) => {
             assert!(rt; sum.pair() == (10, 10));
             Ok(())
@@ -60,7 +71,7 @@ fn two_ends(rt: HostRuntime) -> Result<(), Fail> {
         TwoEnds { low: 50, high: 55 },
         zero,
     ];
-    match exposure(&cells, &SIZES, &rule(), 1, 0) {
+    match sheet(&cells).exposure(&rule(), 1, 0) {
         Ok(sum) => {
             assert!(rt; sum.pair() == (5, 14));
             Ok(())
@@ -73,7 +84,7 @@ fn two_ends(rt: HostRuntime) -> Result<(), Fail> {
 #[test]
 fn past_the_ceiling(rt: HostRuntime) -> Result<(), Fail> {
     let cells: [i64; 4] = [20_000_000_001, 0, 20_000_000_001, 0];
-    match exposure(&cells, &SIZES, &rule(), 1, 0) {
+    match sheet(&cells).exposure(&rule(), 1, 0) {
         Ok(_) => Err(Fail::new("taken")),
         Err(fault) => {
             assert!(rt; fault == FormFault::AmountCeiling);
@@ -101,7 +112,7 @@ fn centre_and_radius(rt: HostRuntime) -> Result<(), Fail> {
         },
         zero,
     ];
-    match exposure(&cells, &SIZES, &rule(), 1, 0) {
+    match sheet(&cells).exposure(&rule(), 1, 0) {
         Ok(sum) => {
             assert!(rt; sum.pair() == (5, 15));
             Ok(())

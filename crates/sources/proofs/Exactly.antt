@@ -1,7 +1,9 @@
 -- Exposures of observed cells gathered in whole numbers: exactly the paper's amount, or the first step past the ceiling.
-use Rattle.std.proofs.Common.{◌≡◌, ℕ, zero, suc, ◌+◌, ◌-◌, ◌<◌, ◌≤◌, true, false, cond, ltb, List, [], ◌∷◌, ◌++◌, map, get_or, take, ℤ, pos, negsuc, ◌+ℤ◌, ◌*ℤ◌, Some, None, Ok, Err, Option, Result, refl, ap, ◌∙◌, arith}
+use Rattle.std.proofs.Common.{◌≡◌, ℕ, zero, suc, ◌+◌, ◌-◌, ◌<◌, ◌≤◌, true, false, cond, ltb, List, [], ◌∷◌, ◌++◌, map, length, get_or, ℤ, pos, negsuc, ◌+ℤ◌, ◌*ℤ◌, Some, None, Ok, Err, Option, Result, refl, ap, ◌∙◌, arith}
 use Rattle.std.proofs.lemmas.Int.{ints}
+use Rattle.std.specs.Prelude.{All}
 use Rattle.std.proofs.Math.ListN.{get_or-map}
+use Rattle.std.proofs.lemmas.List.Elements.{All-tail}
 use Rattle.algebra.specs.Interval.{Ends}
 use Rattle.paper.specs.Numbers.{point, inside}
 use Rattle.paper.specs.Sums.{Sum, nothing, read, join, multiple, sum_of_ends, multiple_of_ends, exact_of, steps_of, AllRead}
@@ -15,10 +17,11 @@ use Rattle.forms.specs.Held.{whole_ends}
 use Rattle.book.specs.declared.kinds.Sizes.{Sizes}
 use Rattle.book.specs.declared.rules.Term.{Term}
 use Rattle.book.specs.declared.rules.Rule.{Rule}
-use Rattle.book.specs.Limits.{blank}
-use Rattle.book.specs.Stored.{term_of, terms_of, amounts_of}
+use Rattle.book.specs.Limits.{ReadsWithin}
+use Rattle.book.specs.Stored.{place_of, cells, term_of, terms_of, amounts_of}
 use Rattle.book.proofs.Keyed.{Within, within_true}
-use Rattle.gathering.specs.Laid.{on_sheet}
+use Rattle.book.proofs.Places.{place_in}
+use Rattle.gathering.specs.Sheet.{on_sheet}
 
 -- ---- a calculation over exact amounts
 -- the amount, if it passes the ceiling
@@ -85,18 +88,20 @@ module _ (s : Sizes) (i k : ℕ) (row : i < s.rows) (column : k < s.columns) whe
         | false ↦ (r, reads_reading t.reach t.property (i - t.shift) p (omega arith))
       ]
 
-  reads_terms : (so_far : Sum Cell) (xs : List Term) (n : ℕ) → AllRead (Within s) so_far → ((t : ℕ) → (get_or xs t blank).property < s.properties) →
-      AllRead (Within s) (with_terms i k so_far (map term_of (take n xs)))
-  reads_terms so_far xs zero r own = r
-  reads_terms so_far [] (suc n) r own = r
-  reads_terms so_far (x ∷ xs) (suc n) r own = reads_terms (with_term i k so_far (term_of x)) xs n (reads_term so_far (term_of x) r (own 0)) (λ t. own (suc t))
+  reads_terms : (so_far : Sum Cell) (ts : List Term) → AllRead (Within s) so_far → ReadsWithin s.properties ts → AllRead (Within s) (with_terms i k so_far (map term_of ts))
+  reads_terms so_far [] r own = r
+  reads_terms so_far (t ∷ ts) r own =
+      reads_terms (with_term i k so_far (term_of t)) ts (reads_term so_far (term_of t) r (own 0 t (omega arith))) (All-tail (λ u. u.property < s.properties) t ts own)
 
-  -- an exposure gathered from a book's own amounts
-  pub gathered_exact : (amounts : List ℤ) (rule : Rule) → ((t : ℕ) → (get_or rule.terms t blank).property < s.properties) →
-      ((j : ℕ) → inside (point (get_or amounts j (pos 0))) ≡ true) →
-      evaluated (on_sheet s (map whole_ends amounts)) (with_terms i k nothing (terms_of rule))
-      ≡ capped (first_of (step_past (amounts_of s amounts)) (steps_of (with_terms i k nothing (terms_of rule)))) (exact_of (amounts_of s amounts) (with_terms i k nothing (terms_of rule)))
-  gathered_exact amounts rule own small =
-      evaluated_exact (Within s) (on_sheet s (map whole_ends amounts)) (amounts_of s amounts)
-      (λ c w. get_or-map whole_ends amounts _ (pos 0) ∙ rw (small _, within_true s c w) refl)
-      (with_terms i k nothing (terms_of rule)) (reads_terms nothing rule.terms rule.len tt own)
+  module _ (amounts : List ℤ) (room : cells s ≤ length amounts) (small : All (λ a. inside (point a) ≡ true) amounts) where
+    amount_exact : (c : Cell) → Within s c → on_sheet s (map whole_ends amounts) c ≡ point (amounts_of s amounts c)
+    amount_exact c w =
+        let here : place_of s c < length amounts = omega (arith, place_in s.properties s.rows s.columns c.property c.row c.column w.property w.row w.column) in
+        get_or-map whole_ends amounts _ (pos 0) ∙ rw (small (place_of s c) (pos 0) here, within_true s c w) refl
+
+    -- an exposure gathered from a book's own amounts
+    pub gathered_exact : (rule : Rule) → ReadsWithin s.properties rule →
+        evaluated (on_sheet s (map whole_ends amounts)) (with_terms i k nothing (terms_of rule))
+        ≡ capped (first_of (step_past (amounts_of s amounts)) (steps_of (with_terms i k nothing (terms_of rule)))) (exact_of (amounts_of s amounts) (with_terms i k nothing (terms_of rule)))
+    gathered_exact rule own =
+        evaluated_exact (Within s) (on_sheet s (map whole_ends amounts)) (amounts_of s amounts) amount_exact (with_terms i k nothing (terms_of rule)) (reads_terms nothing rule tt own)

@@ -1,6 +1,9 @@
 -- A row of an estimate, from what the calls of its function answered.
-use Rattle.std.proofs.Common.{◌≡◌, ℕ, zero, suc, ◌+◌, ◌-◌, ◌*◌, ◌<◌, ◌≤◌, true, ◌∷◌, map, get_or, ℤ, pos, negsuc, ◌+ℤ◌, nat_abs, ◌≤ℤ◌, ◌<ℤ◌, Some, None, Ok, Err, Option, Result, sym, refl, ap, ◌∙◌, add-one, arith}
+use Rattle.std.proofs.Common.{◌≡◌, ℕ, zero, suc, ◌+◌, ◌-◌, ◌*◌, ◌<◌, ◌≤◌, Bool, true, false, cond, ◌⊎◌, inl, inr, List, [], ◌∷◌, map, length, get_or, ℤ, pos, negsuc, ◌+ℤ◌, nat_abs, ◌≤ℤ◌, ◌<ℤ◌, Some, None, Ok, Err, Option, Result, sym, refl, ap, ◌∙◌, add-one, arith}
+use Rattle.std.specs.Prelude.{All}
 use Rattle.std.proofs.lemmas.Int.{ints}
+use Rattle.std.proofs.lemmas.List.{get_or_past}
+use Rattle.std.proofs.lemmas.Bool.{cases_lt}
 use Rattle.algebra.specs.Interval.{Ends}
 use Rattle.paper.specs.Numbers.{Amount, point, inside}
 use Rattle.paper.specs.Sums.{nothing, sum_of_ends}
@@ -13,22 +16,22 @@ use Rattle.forms.specs.Held.{whole_ends}
 use Rattle.book.specs.declared.faults.Fault.{Fault}
 use Rattle.book.specs.declared.kinds.Book.{Book}
 use Rattle.book.specs.Grounds.{at_place, placed}
-use Rattle.book.specs.Limits.{rule_at}
-use Rattle.book.specs.Stored.{book_of, terms_of, place_of}
-use Rattle.gathering.specs.Laid.{on_sheet}
+use Rattle.book.specs.Limits.{rule_at, IsEntry}
+use Rattle.book.specs.Stored.{book_of, cells, terms_of, in_sizes, place_of}
+use Rattle.gathering.specs.Sheet.{on_sheet}
 use Rattle.sources.specs.Estimates.{unless_cause, totals_through}
 use Rattle.sources.specs.declared.estimated.Totals.{Totals}
 use Rattle.sources.proofs.Exactly.{stop, capped, step_capped, gathered_exact}
 
-entry_inside : (x : ℤ) → negsuc 999999999 ≤ℤ x → x ≤ℤ pos 1000000000 → inside (point x) ≡ true
-entry_inside x p q = grind (arith, ints)
+entry_inside : (x : ℤ) → IsEntry x → inside (point x) ≡ true
+entry_inside x e = let l = e.low in let h = e.high in grind (arith, ints)
 
 -- an exposure gathered from a book's own amounts
-pub book_exact : (b : Book) (m i k : ℕ) → i < b.sizes.rows → k < b.sizes.columns →
+pub book_exact : (b : Book) (m i k : ℕ) → m < length b.rules.records → i < b.sizes.rows → k < b.sizes.columns → cells b.sizes ≤ length b.amounts →
     evaluated (on_sheet b.sizes (map whole_ends b.amounts)) (with_terms i k nothing (terms_of (rule_at b.rules.records m)))
     ≡ capped (gathering_past (book_of b) m i k) (exact_exposure (book_of b) m k i)
-book_exact b m i k row column =
-    gathered_exact b.sizes i k row column b.amounts (rule_at b.rules.records m) (b.own m) (λ j. entry_inside (get_or b.amounts j (pos 0)) (b.entries_low j) (b.entries_high j))
+book_exact b m i k property row column room =
+    gathered_exact b.sizes i k row column b.amounts room (λ j d here. entry_inside _ (b.entries j d here)) (rule_at b.rules.records m) (b.own m [] property)
 
 -- what a reading answers: the number, or its cause
 pub read_exact : (m i k : ℕ) (r : Result ℤ Fault) (o : Option ℤ) (v : ℤ) → told point r ≡ placed (at_place m i k) (capped o v) → r ≡ unless_cause m k (amount_cause i o) v
@@ -86,7 +89,12 @@ module _ (b : paper.Book) (m k i : ℕ) (own : ℤ) (given : Ok own ≡ unless_c
 
 -- ---- bounds
 amount_small : (b : Book) (c : Cell) → nat_abs ((book_of b).amount c) ≤ 1000000000
-amount_small b c = let low = b.entries_low (place_of b.sizes c) in let high = b.entries_high (place_of b.sizes c) in grind (arith, ints)
+amount_small b c = go (in_sizes b.sizes c) b.amounts (place_of b.sizes c) (cases_lt (place_of b.sizes c) (length b.amounts)) b.entries
+  where
+    go : (t : Bool) (xs : List ℤ) (j : ℕ) → (j < length xs) ⊎ (length xs ≤ j) → All IsEntry xs → nat_abs (cond t (get_or xs j (pos 0)) (pos 0)) ≤ 1000000000
+    go true xs j (inl here) all = let e = all j (pos 0) here in omega (arith, ints)
+    go true xs j (inr past) all = rw get_or_past (omega arith)
+    go false xs j o all = omega arith
 
 amounts_small : (b : Book) (m k n : ℕ) → nat_abs (next_amounts_through (book_of b) m k n) ≤ 1000000000 * n
 amounts_small b m k zero = omega arith

@@ -14,18 +14,13 @@ use book::faults::{Fault, Ground, Origin, Place, Placing};
 use book::kinds::Book;
 use forms::FormFault;
 use forms::whole::read;
-use gathering::exposure;
+use gathering::Sheet;
 
 // A fault that arises in a source.
 pub(crate) fn declined(ground: Ground, place: Place) -> Fault
     ensures { result ≡ fault_at OfSource place 0 ground }
 {
-    Fault {
-        ground,
-        origin: Origin::OfSource,
-        place,
-        layers: 0,
-    }
+    Fault::new(ground, Origin::OfSource, place)
 }
 
 // The number that a sum stands for, or its fault at the place.
@@ -45,7 +40,7 @@ pub fn gathered(book: &Book, place: Place) -> Result<i64, Fault>
     ensures amount { IfOk result (λ v. Amount (point v)) }
 {
     let rule = &book.rules.records[place.property];
-    let sum = exposure(&book.amounts, &book.sizes, rule, place.row, place.column);
+    let sum = Sheet::from(book).exposure(rule, place.row, place.column);
     read_at(sum, place)
 }
 

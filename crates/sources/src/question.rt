@@ -12,7 +12,7 @@ ghost use Rattle.sources.specs.Estimates.{unless_cause};
 use crate::exact::{declined, gathered};
 use book::faults::{Fault, Ground, Place};
 use book::kinds::Book;
-use gathering::row_start;
+use gathering::Sheet;
 
 // Asks for the factor of a property from a column to the next; the book has the property and both columns.
 #[derive(Clone, Copy)]
@@ -79,6 +79,6 @@ impl<'a> Question<'a> {
         ensures value { let q = self.now in result ≡ next_amount (book_of q.book.now) q.property q.column row }
         ensures entry { (negsuc 999999999 ≤ℤ result) × (result ≤ℤ pos 1000000000) }
     {
-        self.book.amounts[row_start(&self.book.sizes, self.property, row) + (self.column + 1)]
+        Sheet::from(self.book).row(self.property, row)[self.column + 1]
     }
 }
