@@ -1,4 +1,5 @@
 // Factors of small books, asked through whole lines of calls.
+use book::faults::Place;
 use book::kinds::Sizes;
 use book::rules::Term;
 use forms::two_ends::TwoEnds;
@@ -7,12 +8,12 @@ use lines::run::run;
 use sources::estimated::Estimated;
 
 fn enter(row: usize, column: usize, amount: i64) -> Call {
-    Call::Enter {
+    let at = Place {
         property: 0,
         row,
         column,
-        amount,
-    }
+    };
+    Call::Enter { at, amount }
 }
 
 fn chain_ladder() -> Call {

@@ -34,16 +34,12 @@ abbrev pub opening : Sizes → Paper
 opening s = record { state = Drafted; book = opened s.properties s.rows s.columns }
 
 abbrev pub takes : State → Call → Bool
-takes Drafted (Enter p a) = true
-takes Drafted (AddTerm m t) = true
-takes Drafted Close = true
 takes Drafted (AskFactor m k) = false
 takes Drafted Reopen = false
-takes Closed (Enter p a) = false
-takes Closed (AddTerm m t) = false
-takes Closed Close = false
+takes Drafted _ = true
 takes Closed (AskFactor m k) = true
 takes Closed Reopen = true
+takes Closed _ = false
 
 -- whether a call was accepted: all that the paper run is told of its outcome
 abbrev pub accepted : Outcome → Bool
@@ -56,16 +52,12 @@ accepted (Refused f) = false
 abbrev pub changed : Book → Call → Book
 changed b (Enter p a) = with_entry b (cell_of p) a
 changed b (AddTerm m t) = with_last_term b m (term_of t)
-changed b Close = b
-changed b (AskFactor m k) = b
-changed b Reopen = b
+changed b _ = b
 
 abbrev pub state_after : State → Call → State
-state_after s (Enter p a) = s
-state_after s (AddTerm m t) = s
 state_after s Close = Closed
-state_after s (AskFactor m k) = s
 state_after s Reopen = Drafted
+state_after s _ = s
 
 abbrev pub paper_next : Paper → Call → Bool → Paper
 paper_next s call true = record { state = state_after s.state call; book = changed s.book call }
@@ -112,11 +104,8 @@ meaning_steps R m k (factor before s) = map (factor_step R m k) (before ++ (s �
 meaning_steps R m k (cause before n c) = map (factor_step R m k) before ++ cause_steps m k c
 
 abbrev pub steps : Reading → Book → Call → List PaperStep
-steps R b (Enter p a) = []
-steps R b (AddTerm m t) = []
-steps R b Close = []
 steps R b (AskFactor m k) = meaning_steps R m k (R.means b m k)
-steps R b Reopen = []
+steps R b _ = []
 
 -- ---- what an outcome says
 -- a call that is accepted without an answer
@@ -133,19 +122,15 @@ pub record AnswersFactor (R : Reading) (b : Book) (m k : ℕ) (e : Ends) : Type 
   pub covers : Covers (in_ten_millionths (fraction_of (R.means b m k))) (factor_allowance R) e
 
 abbrev pub Answers : Reading → Book → Call → Ends → Type 0
-Answers R b (Enter p a) e = ⊥
-Answers R b (AddTerm m t) e = ⊥
-Answers R b Close e = ⊥
 Answers R b (AskFactor m k) e = AnswersFactor R b m k e
-Answers R b Reopen e = ⊥
+Answers R b _ e = ⊥
 
 -- the ground that the rules give
 abbrev pub Refuses : Reading → Book → Call → Fault → Type 0
 Refuses R b (Enter p a) f = entry_fault b p a ≡ Some f
 Refuses R b (AddTerm m t) f = term_fault b m t ≡ Some f
-Refuses R b Close f = ⊥
 Refuses R b (AskFactor m k) f = answer_in R.form m k (R.means b m k) ≡ Err f
-Refuses R b Reopen f = ⊥
+Refuses R b _ f = ⊥
 
 -- some element of the list has the property; not std's Any, since this is ⊥ of no steps, which the check closes alone
 abbrev pub SomeOf : {A : Type 0} → (A → Type 0) → List A → Type 0
@@ -170,14 +155,12 @@ Stands R s call (Refused f) = (takes s.state call ≡ true) × Refuses R s.book 
 -- every call has its outcome, and each stands on the paper's book as the calls before it left it
 abbrev pub LineStands : Reading → Paper → List Call → List Outcome → Type 0
 LineStands R s [] [] = Unit {0}
-LineStands R s [] (o ∷ os) = ⊥
-LineStands R s (call ∷ cs) [] = ⊥
 LineStands R s (call ∷ cs) (o ∷ os) = Stands R s call o × LineStands R (paper_next s call (accepted o)) cs os
+LineStands R s _ _ = ⊥
 
 abbrev pub paper_after : Paper → List Call → List Outcome → Paper
-paper_after s [] os = s
-paper_after s (call ∷ cs) [] = s
 paper_after s (call ∷ cs) (o ∷ os) = paper_after (paper_next s call (accepted o)) cs os
+paper_after s _ _ = s
 
 -- the first n calls were run, as many as there was room for, and the room past them is as it was
 pub record Ran (R : Reading) (sizes : Sizes) (calls : List Call) (before after : List Outcome) (n : ℕ) : Type 0 where

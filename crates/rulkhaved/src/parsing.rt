@@ -1,4 +1,5 @@
 // A line of input as a call.
+use book::faults::Place;
 use book::kinds::Sizes;
 use book::rules::Term;
 use lines::calls::Call;
@@ -50,12 +51,12 @@ fn entry(words: &mut SplitWhitespace<'_>) -> Option<Line> {
     let row = count(words)?;
     let column = count(words)?;
     let amount = amount(words)?;
-    Some(Line::Made(Call::Enter {
+    let at = Place {
         property,
         row,
         column,
-        amount,
-    }))
+    };
+    Some(Line::Made(Call::Enter { at, amount }))
 }
 
 fn term(words: &mut SplitWhitespace<'_>) -> Option<Line> {
