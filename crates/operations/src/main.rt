@@ -20,7 +20,7 @@ const USAGE: &str =
 FORM is ends or centre. An amount or a factor is two stored numbers: the lower and the upper end, or the centre and the radius.
 Blank lines and lines that begin with # are skipped.";
 
-fn run(rt: &HostRuntime) -> anyhow::Result<()> {
+fn main(rt: HostRuntime) -> anyhow::Result<()> {
     let mut bytes = Vec::new(rt.alloc());
     let _ = rt.stdin().read_to_end(&mut bytes)?;
     if bytes.is_empty() {
@@ -31,8 +31,4 @@ fn run(rt: &HostRuntime) -> anyhow::Result<()> {
     let answers = wording::answers(rt.alloc(), text.as_str())?;
     rt.print(answers.as_str())?;
     Ok(())
-}
-
-fn main(rt: HostRuntime) -> anyhow::Result<()> {
-    run(&rt)
 }

@@ -1,5 +1,4 @@
 // Amounts and factors of a form, made from two stored numbers.
-use forms::ProjectingForm;
 use forms::centre::{CentreRadius, FactorRadius};
 use forms::two_ends::{FactorEnds, TwoEnds};
 
@@ -10,21 +9,17 @@ pub(crate) struct Numbers {
     pub(crate) second: i64,
 }
 
-pub(crate) trait Stored: ProjectingForm {
-    fn stored_amount(numbers: Numbers) -> Self;
-
-    fn stored_factor(numbers: Numbers) -> Self::Factor;
-}
-
-impl Stored for TwoEnds {
-    fn stored_amount(numbers: Numbers) -> TwoEnds {
+impl From<Numbers> for TwoEnds {
+    fn from(numbers: Numbers) -> Self {
         TwoEnds {
             low: numbers.first,
             high: numbers.second,
         }
     }
+}
 
-    fn stored_factor(numbers: Numbers) -> FactorEnds {
+impl From<Numbers> for FactorEnds {
+    fn from(numbers: Numbers) -> Self {
         FactorEnds {
             low: numbers.first,
             high: numbers.second,
@@ -32,15 +27,17 @@ impl Stored for TwoEnds {
     }
 }
 
-impl Stored for CentreRadius {
-    fn stored_amount(numbers: Numbers) -> CentreRadius {
+impl From<Numbers> for CentreRadius {
+    fn from(numbers: Numbers) -> Self {
         CentreRadius {
             centre: numbers.first,
             radius: numbers.second,
         }
     }
+}
 
-    fn stored_factor(numbers: Numbers) -> FactorRadius {
+impl From<Numbers> for FactorRadius {
+    fn from(numbers: Numbers) -> Self {
         FactorRadius {
             centre: numbers.first,
             radius: numbers.second,

@@ -1,69 +1,33 @@
 // A whole input: each line in words, with what it came to.
-use crate::parsing::{FormName, Line};
-use crate::working::{Answer, Operation};
-use crate::{parsing, working};
-use forms::FormFault;
+use crate::parsing::Request;
+use crate::working::Unanswered;
 use forms::centre::CentreRadius;
 use forms::two_ends::TwoEnds;
-use std::alloc::Global;
-use std::fmt;
+use std::alloc::{AllocError, Global};
+use std::fmt::Write;
+use typed::form::FormName;
+use typed::line::Line;
 
-// The words of a line, with single blanks between them.
-fn echo<W: fmt::Write>(out: &mut W, text: &str) -> fmt::Result {
-    let mut first = true;
-    for word in text.split_whitespace() {
-        if !first {
-            out.write_str(" ")?;
-        }
-        out.write_str(word)?;
-        first = false;
-    }
-    Ok(())
-}
-
-fn ground_number(fault: FormFault) -> u8 {
-    match fault {
-        FormFault::AmountCeiling => 14,
-        FormFault::FactorCeiling => 15,
-    }
-}
-
-fn worded<W: fmt::Write>(out: &mut W, answer: Answer) -> fmt::Result {
-    match answer {
-        Answer::Between(low, high) => write!(out, "between {low} and {high}"),
-        Answer::Refused(fault) => {
-            let number = ground_number(fault);
-            write!(out, "refused {number}")
-        }
-        Answer::NotUnderstood => out.write_str("not understood"),
-    }
-}
-
-fn answered(form: FormName, operation: &Operation) -> Answer {
-    match form {
-        FormName::Ends => working::worked::<TwoEnds>(operation),
-        FormName::Centre => working::worked::<CentreRadius>(operation),
-    }
-}
-
-// What a line came to; none for a line that is skipped.
-fn answer_of(text: &str) -> Option<Answer> {
-    match parsing::read(text) {
-        Line::Skipped => None,
-        Line::Asked(form, operation) => Some(answered(form, &operation)),
-        Line::NotUnderstood => Some(Answer::NotUnderstood),
-    }
+// What a line came to; nothing if it is skipped.
+fn answer(line: Line<'_>) -> Result<Option<(i64, i64)>, Unanswered> {
+    let Some(Request { form, operation }) = line.read(Request::parse)? else {
+        return Ok(None);
+    };
+    let ends = match form {
+        FormName::Ends => operation.worked::<TwoEnds>()?,
+        FormName::Centre => operation.worked::<CentreRadius>()?,
+    };
+    Ok(Some(ends))
 }
 
 // What is printed for an input.
-pub(crate) fn answers(heap: Global, text: &str) -> anyhow::Result<String> {
+pub(crate) fn answers(heap: Global, text: &str) -> Result<String, AllocError> {
     let mut out = String::new(heap);
-    for line in text.lines() {
-        if let Some(answer) = answer_of(line) {
-            echo(&mut out, line)?;
-            out.push_str(": ")?;
-            worded(&mut out, answer)?;
-            out.push_str("\n")?;
+    for line in text.lines().map(Line) {
+        match answer(line) {
+            Ok(None) => {}
+            Ok(Some((low, high))) => writeln!(out, "{line}: between {low} and {high}")?,
+            Err(unanswered) => writeln!(out, "{line}: {unanswered}")?,
         }
     }
     Ok(out)

@@ -1,6 +1,10 @@
 // What an operation on stored numbers comes to, written once for every form.
-use crate::stored::{Numbers, Stored};
-use forms::{AMOUNT_CEILING, FormFault};
+use crate::stored::Numbers;
+use forms::{AMOUNT_CEILING, FormFault, ProjectingForm};
+use std::fmt;
+use typed::words::NotUnderstood;
+
+const AMOUNT_FLOOR: i64 = -AMOUNT_CEILING;
 
 #[derive(Clone, Copy)]
 pub(crate) enum Operation {
@@ -13,68 +17,56 @@ pub(crate) enum Operation {
     Apply(Numbers, Numbers),
 }
 
-// The ends of the result, the refusal, or that a number lies outside what the operation takes.
+impl Operation {
+    // The two ends of the result.
+    pub(crate) fn worked<F>(self) -> Result<(i64, i64), Unanswered>
+    where
+        F: ProjectingForm + From<Numbers>,
+        F::Factor: From<Numbers>,
+    {
+        match self {
+            Operation::Whole(hundredths) => Ok(F::whole(hundredths)?.pair()),
+            Operation::Plus(a, b) => Ok(F::from(a).plus(&F::from(b))?.pair()),
+            Operation::Times(coefficient @ -100..=100, a) => {
+                Ok(F::from(a).times(coefficient)?.pair())
+            }
+            Operation::Exact(ten_millionths) => Ok(F::factor_pair(&F::exact(ten_millionths)?)),
+            Operation::Ratio(p @ AMOUNT_FLOOR..=AMOUNT_CEILING, q @ 1..=AMOUNT_CEILING) => {
+                Ok(F::factor_pair(&F::ratio(p, q)?))
+            }
+            Operation::Mix(weight @ 0..=1000, f, g) => {
+                Ok(F::factor_pair(&F::mix(weight as u16, &f.into(), &g.into())?))
+            }
+            Operation::Apply(f, a) => Ok(F::apply(&f.into(), &a.into())?.pair()),
+            _ => Err(NotUnderstood.into()),
+        }
+    }
+}
+
+// Why there are no ends: the form refuses the result, or a number lies outside what the operation takes.
 #[derive(Clone, Copy)]
-pub(crate) enum Answer {
-    Between(i64, i64),
+pub(crate) enum Unanswered {
     Refused(FormFault),
-    NotUnderstood,
+    NotUnderstood(NotUnderstood),
 }
 
-fn amount_answer<F: Stored>(res: Result<F, FormFault>) -> Answer {
-    match res {
-        Ok(amount) => {
-            let (low, high) = amount.pair();
-            Answer::Between(low, high)
-        }
-        Err(fault) => Answer::Refused(fault),
+impl From<FormFault> for Unanswered {
+    fn from(fault: FormFault) -> Self {
+        Unanswered::Refused(fault)
     }
 }
 
-fn factor_answer<F: Stored>(res: Result<F::Factor, FormFault>) -> Answer {
-    match res {
-        Ok(factor) => {
-            let (low, high) = F::factor_pair(&factor);
-            Answer::Between(low, high)
-        }
-        Err(fault) => Answer::Refused(fault),
+impl From<NotUnderstood> for Unanswered {
+    fn from(fault: NotUnderstood) -> Self {
+        Unanswered::NotUnderstood(fault)
     }
 }
 
-fn times<F: Stored>(coefficient: i64, a: Numbers) -> Answer {
-    if coefficient < -100 || coefficient > 100 {
-        return Answer::NotUnderstood;
-    }
-    amount_answer::<F>(F::stored_amount(a).times(coefficient))
-}
-
-fn ratio<F: Stored>(p: i64, q: i64) -> Answer {
-    if p < -AMOUNT_CEILING || p > AMOUNT_CEILING || q <= 0 || q > AMOUNT_CEILING {
-        return Answer::NotUnderstood;
-    }
-    factor_answer::<F>(F::ratio(p, q))
-}
-
-fn mix<F: Stored>(weight: i64, f: Numbers, g: Numbers) -> Answer {
-    let Ok(w) = u16::try_from(weight) else {
-        return Answer::NotUnderstood;
-    };
-    if w > 1000 {
-        return Answer::NotUnderstood;
-    }
-    factor_answer::<F>(F::mix(w, &F::stored_factor(f), &F::stored_factor(g)))
-}
-
-pub(crate) fn worked<F: Stored>(operation: &Operation) -> Answer {
-    match *operation {
-        Operation::Whole(hundredths) => amount_answer::<F>(F::whole(hundredths)),
-        Operation::Plus(a, b) => amount_answer::<F>(F::stored_amount(a).plus(&F::stored_amount(b))),
-        Operation::Times(coefficient, a) => times::<F>(coefficient, a),
-        Operation::Exact(ten_millionths) => factor_answer::<F>(F::exact(ten_millionths)),
-        Operation::Ratio(p, q) => ratio::<F>(p, q),
-        Operation::Mix(weight, f, g) => mix::<F>(weight, f, g),
-        Operation::Apply(f, a) => {
-            amount_answer::<F>(F::apply(&F::stored_factor(f), &F::stored_amount(a)))
+impl fmt::Display for Unanswered {
+    fn fmt<W: fmt::Write>(&self, f: &mut fmt::Formatter<W>) -> fmt::Result {
+        match self {
+            Unanswered::Refused(fault) => write!(f, "refused {}", *fault as u8),
+            Unanswered::NotUnderstood(fault) => write!(f, "{fault}"),
         }
     }
 }

@@ -5,7 +5,6 @@ mod parsing;
 mod session;
 #[cfg(test)]
 mod tests;
-mod wording;
 
 use std::io::Read;
 use std::process::ExitCode;
@@ -21,21 +20,17 @@ const USAGE: &str =
   reopen                               the closed book is a draft again
 Blank lines and lines that begin with # are skipped.";
 
-fn run(rt: &HostRuntime) -> anyhow::Result<bool> {
+fn main(rt: HostRuntime) -> anyhow::Result<ExitCode> {
     let mut bytes = Vec::new(rt.alloc());
     let _ = rt.stdin().read_to_end(&mut bytes)?;
     if bytes.is_empty() {
         rt.println(USAGE)?;
-        return Ok(true);
+        return Ok(ExitCode::SUCCESS);
     }
     let text = String::from_utf8_lossy(rt.alloc(), bytes.as_slice())?;
-    let (answers, understood) = session::answers(rt.alloc(), text.as_str())?;
-    rt.print(answers.as_str())?;
-    Ok(understood)
-}
-
-fn main(rt: HostRuntime) -> anyhow::Result<ExitCode> {
-    if run(&rt)? {
+    let answers = session::answers(rt.alloc(), text.as_str())?;
+    rt.print(answers.text.as_str())?;
+    if answers.understood {
         Ok(ExitCode::SUCCESS)
     } else {
         Ok(ExitCode::FAILURE)

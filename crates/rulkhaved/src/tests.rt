@@ -28,16 +28,16 @@ line 11: not understood: reopened
 
 #[test]
 fn not_understood(rt: HostRuntime) -> Result<(), Fail> {
-    let (said, understood) = answers(rt.alloc(), LINES)?;
-    assert!(rt; !understood);
-    assert!(rt; said.as_str() == ANSWERS, "what is printed");
+    let said = answers(rt.alloc(), LINES)?;
+    assert!(rt; !said.understood);
+    assert!(rt; said.text.as_str() == ANSWERS, "what is printed");
     Ok(())
 }
 
 #[test]
 fn nothing_to_say(rt: HostRuntime) -> Result<(), Fail> {
-    let (said, understood) = answers(rt.alloc(), "\n   \n# only a comment\n")?;
-    assert!(rt; understood);
-    assert!(rt; said.is_empty());
+    let said = answers(rt.alloc(), "\n   \n# only a comment\n")?;
+    assert!(rt; said.understood);
+    assert!(rt; said.text.is_empty());
     Ok(())
 }

@@ -1,0 +1,6 @@
+// Lines of words as they are typed: what both programs read alike.
+#![tactic(auto)]
+
+pub mod form;
+pub mod line;
+pub mod words;
