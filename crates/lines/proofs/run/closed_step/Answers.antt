@@ -1,14 +1,18 @@
+use Rattle.std.proofs.Common.{rules}
 use Rattle.engine.specs.Held.{of_closed}
 use Rattle.lines.specs.Line.{reading}
 use Rattle.lines.proofs.Factors.{factor_stands}
+use Rattle.lines.proofs.run.closed_step.Goals.{in-AskFactor, in-Enter}
 use Rattle.lines.proofs.run.closed_step.Goals as goal
 
-pub returns-in-AskFactor-clause-stands : goal.returns-in-AskFactor-clause-stands
-returns-in-AskFactor-clause-stands g c =
+pub returns-clause-stands : goal.returns-clause-stands
+returns-clause-stands g c =
     let s = c.args.source.now in
     let b = of_closed c.args.closed in
-    let m = c.in-AskFactor.property in
-    let k = c.in-AskFactor.column in
     let R = reading (g.S.FactorSource.means s) (g.S.FactorSource.depth s) g.F.ProjectingForm.form in
-    rw c.in-AskFactor.is
-    (factor_stands R g.met.F.ProjectingForm.lawful b m k (g.met.S.FactorSource.sound s b m k) c.factor.result c.into-outcome.result c.factor.ensures c.into-outcome.ensures)
+    elim c.match-call.branch [
+      | in-AskFactor w ↦ let m = w.in-AskFactor.property in let k = w.in-AskFactor.column in
+          rw (w.in-AskFactor.is, w.outcome-is)
+          (factor_stands R g.met.F.ProjectingForm.lawful b m k (g.met.S.FactorSource.sound s b m k) w.factor.result w.into-outcome.result w.factor.ensures w.into-outcome.ensures)
+      | in-Enter w ↦ search rules
+    ]
