@@ -32,13 +32,13 @@ impl Book {
             columns,
         } = sizes;
         let nowhere = Place::default();
-        if properties < 1 || properties > 4 {
+        if !(1..=4).contains(&properties) {
             return declined(Ground::SizesOutside, nowhere);
         }
-        if rows < 1 || rows > 16 {
+        if !(1..=16).contains(&rows) {
             return declined(Ground::SizesOutside, nowhere);
         }
-        if columns < 1 || columns > 12 {
+        if !(1..=12).contains(&columns) {
             return declined(Ground::SizesOutside, nowhere);
         }
         if rows < columns {
@@ -72,7 +72,7 @@ impl Book {
         if at.row + at.column >= self.sizes.rows {
             return declined(Ground::NotObserved, at);
         }
-        if amount < -ENTRY_LIMIT || amount > ENTRY_LIMIT {
+        if !(-ENTRY_LIMIT..=ENTRY_LIMIT).contains(&amount) {
             return declined(Ground::EntryLimit, at);
         }
         let place = self.sizes.row_start(at.property, at.row) + at.column;
@@ -101,7 +101,7 @@ impl Book {
         if term.reach > 2 {
             return declined(Ground::NoReach, at);
         }
-        if term.coefficient < -100 || term.coefficient > 100 || term.coefficient == 0 {
+        if !(-100..=100).contains(&term.coefficient) || term.coefficient == 0 {
             return declined(Ground::CoefficientOutside, at);
         }
         if self.rules.records[m].is_full() {

@@ -1,8 +1,17 @@
 use Rattle.std.proofs.Common.{◌<◌, length, arith, w64, rules}
+use Rattle.std.proofs.lemmas.Grind.{common_steps}
 use Rattle.std.proofs.lemmas.Int.{to_z-of_z}
+use Rattle.std.proofs.lemmas.List.Elements.{All-set}
+use Rattle.book.specs.Limits.{IsEntry}
 use Rattle.book.specs.Stored.{cell_of, place_of}
 use Rattle.book.proofs.Keyed.{Within, entered_is}
 use Rattle.book.proofs.kinds.Book.enter.Goals as goal
+
+pub invariant_of-self-clause-entries : goal.invariant_of-self-clause-entries
+invariant_of-self-clause-entries c =
+    let b = c.args.self.now in
+    let e = to_z-of_z _ c.args.amount c.ranges.amount in
+    All-set IsEntry b.amounts _ _ (rw e (grind (arith, common_steps))) b.entries
 
 pub returns : goal.returns
 returns c =
