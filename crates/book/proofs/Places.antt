@@ -1,5 +1,5 @@
 -- Where a cell stands among a book's amounts.
-use Rattle.std.proofs.Common.{ℕ, ◌+◌, ◌*◌, ◌<◌, ◌≤◌, mul-le-mul, arith}
+use Rattle.std.proofs.Common.{ℕ, ◌+◌, ◌*◌, ◌<◌, ◌≤◌, arith}
 use Rattle.std.proofs.lemmas.Nat.{row_fits}
 
 -- a row is within the book's own cells
@@ -12,6 +12,3 @@ row_in p n c m i hm hi =
 -- and so is a cell
 pub place_in : (p n c m i k : ℕ) → m < p → i < n → k < c → (m * n + i) * c + k < p * n * c
 place_in p n c m i k hm hi hk = omega (arith, row_in p n c m i hm hi)
-
-pub cells_le : (p n c : ℕ) → p ≤ 4 → n ≤ 16 → c ≤ 12 → p * n * c ≤ 768
-cells_le p n c hp hn hc = mul-le-mul (mul-le-mul hp hn) hc

@@ -1,5 +1,5 @@
 // Rules of terms, in a table of one record for each property.
-ghost use Rattle.std.specs.Prelude.{◌≡◌, ◌<◌, ◌≤◌, ◌↔◌, List, [], ◌∷◌, ◌++◌, All, length, replicate, slice_set, IsTrue};
+ghost use Rattle.std.specs.Prelude.{◌≡◌, ◌<◌, ◌≤◌, ◌↔◌, [], ◌∷◌, ◌++◌, All, length, replicate, slice_set, IsTrue};
 ghost use Rattle.book.specs.Limits.{IsRuleTerm, rule_at};
 
 use std::marker::Model;

@@ -27,7 +27,7 @@ folded_push step v [] x = next_itself (step v x)
 folded_push step v (y ∷ ys) x = ap (next (step v y)) (fun_ext (λ w. folded_push step w ys x)) ∙ sym (next_next (step v y) (λ w. folded step w ys) (λ w. step w x))
 
 -- a column of a row, as the sheet has it
-pub row_column : {X : Type 0} (s : Sizes) (xs : List X) (m i k : ℕ) (d : X) → k < s.columns → get_or (row_of s m i xs) k d ≡ get_or xs (place_of s (cell_at m i k)) d
+row_column : {X : Type 0} (s : Sizes) (xs : List X) (m i k : ℕ) (d : X) → k < s.columns → get_or (row_of s m i xs) k d ≡ get_or xs (place_of s (cell_at m i k)) d
 row_column s xs m i k d h =
     let at = place_of s (cell_at m i 0) in
     get_or-take s.columns (drop at xs) k d h ∙ get_or-drop at xs k d ∙ ap (λ j. get_or xs j d) (omega arith)

@@ -1,7 +1,7 @@
 // Exposures, gathered once for every summing form from lent amounts. Each addition and multiple may be refused.
 #![tactic(auto)]
 
-ghost use Rattle.std.specs.Prelude.{◌≡◌, ℕ, ◌<◌, ◌≤◌, map, length};
+ghost use Rattle.std.specs.Prelude.{◌≡◌, ◌<◌, ◌≤◌, map, length};
 ghost use Rattle.paper.specs.Books.{with_terms};
 ghost use Rattle.paper.specs.Sums.{nothing};
 ghost use Rattle.forms.specs.Told.{told, evaluated};
@@ -46,7 +46,7 @@ impl<'a, F> Sheet<'a, F> {
     }
 }
 
-impl<'a, F: SummingForm> Sheet<'a, F> {
+impl<F: SummingForm> Sheet<'_, F> {
     // The sum so far, with what one term adds. A term that goes back before the first row adds nothing.
     fn add_term(&self, term: &Term, row: usize, column: usize, sum: F) -> Result<F, FormFault>
         requires own { term.now.property < self.now.sizes.properties }
@@ -58,7 +58,7 @@ impl<'a, F: SummingForm> Sheet<'a, F> {
         // A rule of the project: reaches are codes, and guards leave out a row before the first.
         let read = match term.reach {
             0 if term.shift <= row => {
-                sum_all(&self.row(term.property, row - term.shift)[..column + 1])?
+                sum_all(&self.row(term.property, row - term.shift)[..=column])?
             },
             1 if term.shift <= row => self.row(term.property, row - term.shift)[0],
             2 if term.shift <= row => self.row(term.property, row - term.shift)[column],
