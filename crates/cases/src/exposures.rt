@@ -8,7 +8,6 @@ use forms::centre::CentreRadius;
 use forms::two_ends::TwoEnds;
 use forms::{FormFault, SummingForm};
 use gathering::Sheet;
-use std::test::Fail;
 
 const SIZES: Sizes = Sizes {
     properties: 1,
@@ -48,22 +47,21 @@ fn sheet<F>(cells: &[F; 4]) -> Sheet<'_, F>
     }
 }
 
+// The ends of the exposure of row 1 from column 0.
+fn exposed<F: SummingForm>(cells: &[F; 4]) -> Result<(i64, i64), FormFault> {
+    Ok(sheet(cells).exposure(&rule(), 1, 0)?.pair())
+}
+
 // Row 0 holds 30 and 40, row 1 holds 50: from column 0 row 1 is exposed to 2 × 30 − 50.
 #[test]
-fn whole_numbers(rt: HostRuntime) -> Result<(), Fail> {
+fn whole_numbers(rt: HostRuntime) {
     let cells: [i64; 4] = [30, 40, 50, 0];
-    match sheet(&cells).exposure(&rule(), 1, 0) {
-        Ok(sum) => {
-            assert!(rt; sum.pair() == (10, 10));
-            Ok(())
-        },
-        Err(_) => Err(Fail::new("refused")),
-    }
+    assert!(rt; exposed(&cells) == Ok((10, 10)));
 }
 
 // The same of intervals: the negative coefficient exchanges the ends.
 #[test]
-fn two_ends(rt: HostRuntime) -> Result<(), Fail> {
+fn two_ends(rt: HostRuntime) {
     let zero = TwoEnds { low: 0, high: 0 };
     let cells = [
         TwoEnds { low: 30, high: 32 },
@@ -71,31 +69,19 @@ fn two_ends(rt: HostRuntime) -> Result<(), Fail> {
         TwoEnds { low: 50, high: 55 },
         zero,
     ];
-    match sheet(&cells).exposure(&rule(), 1, 0) {
-        Ok(sum) => {
-            assert!(rt; sum.pair() == (5, 14));
-            Ok(())
-        },
-        Err(_) => Err(Fail::new("refused")),
-    }
+    assert!(rt; exposed(&cells) == Ok((5, 14)));
 }
 
 // A multiple past the ceiling is refused, although the sum would be within it.
 #[test]
-fn past_the_ceiling(rt: HostRuntime) -> Result<(), Fail> {
+fn past_the_ceiling(rt: HostRuntime) {
     let cells: [i64; 4] = [20_000_000_001, 0, 20_000_000_001, 0];
-    match sheet(&cells).exposure(&rule(), 1, 0) {
-        Ok(_) => Err(Fail::new("taken")),
-        Err(fault) => {
-            assert!(rt; fault == FormFault::AmountCeiling);
-            Ok(())
-        },
-    }
+    assert!(rt; exposed(&cells) == Err(FormFault::AmountCeiling));
 }
 
 // The same of centres and radii: the radii are added, twice the first and once the second.
 #[test]
-fn centre_and_radius(rt: HostRuntime) -> Result<(), Fail> {
+fn centre_and_radius(rt: HostRuntime) {
     let zero = CentreRadius {
         centre: 0,
         radius: 0,
@@ -112,11 +98,5 @@ fn centre_and_radius(rt: HostRuntime) -> Result<(), Fail> {
         },
         zero,
     ];
-    match sheet(&cells).exposure(&rule(), 1, 0) {
-        Ok(sum) => {
-            assert!(rt; sum.pair() == (5, 15));
-            Ok(())
-        },
-        Err(_) => Err(Fail::new("refused")),
-    }
+    assert!(rt; exposed(&cells) == Ok((5, 15)));
 }

@@ -20,6 +20,7 @@ const USAGE: &str =
 FORM is ends or centre. An amount or a factor is two stored numbers: the lower and the upper end, or the centre and the radius.
 Blank lines and lines that begin with # are skipped.";
 
+// Each program reads its input itself: a library of this repository allocates nothing.
 fn main(rt: HostRuntime) -> anyhow::Result<()> {
     let mut bytes = Vec::new(rt.alloc());
     let _ = rt.stdin().read_to_end(&mut bytes)?;

@@ -20,6 +20,7 @@ const USAGE: &str =
   reopen                               the closed book is a draft again
 Blank lines and lines that begin with # are skipped.";
 
+// Each program reads its input itself: a library of this repository allocates nothing.
 fn main(rt: HostRuntime) -> anyhow::Result<ExitCode> {
     let mut bytes = Vec::new(rt.alloc());
     let _ = rt.stdin().read_to_end(&mut bytes)?;

@@ -3,4 +3,6 @@
 
 pub mod form;
 pub mod line;
+#[cfg(test)]
+mod tests;
 pub mod words;
