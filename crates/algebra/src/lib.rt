@@ -1,4 +1,5 @@
-// Quotients rounded down and up, and products that stay inside their width.
+// Quotients rounded down and up, and products that stay inside their width. Sizes stay clauses: a number that carried its
+// size would be unwrapped wherever it is added, compared or divided.
 #![tactic(auto)]
 
 ghost use Rattle.algebra.specs.Interval.{floor_div, ceil_div, least, greatest};

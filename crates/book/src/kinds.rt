@@ -22,6 +22,7 @@ impl Sizes {
     }
 }
 
+// The amounts are an array for the largest book, since a book lies in fixed memory; the sizes say which of them count.
 #[derive(Drop)]
 pub struct Book {
     pub sizes: Sizes,

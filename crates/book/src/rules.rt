@@ -5,7 +5,7 @@ ghost use Rattle.book.specs.Limits.{IsRuleTerm, rule_at};
 use std::marker::Model;
 
 // A term reads a row of a property, `shift` rows back, and takes a multiple of it. Reach 0 is the sum of the columns so
-// far, 1 column 0, and 2 the column itself.
+// far, 1 column 0, and 2 the column itself; it is a code by a rule of the project, and a book refuses any other.
 #[derive(Clone, Copy, PartialEq, Eq, Debug)]
 pub struct Term {
     pub property: usize,
@@ -79,6 +79,7 @@ impl Rule {
     }
 }
 
+// A record for each property that a book may have: a plain table by a rule of the project, in fixed memory.
 #[derive(Clone, Copy)]
 pub struct RuleTable {
     pub records: [Rule; 4],

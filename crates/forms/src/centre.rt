@@ -39,6 +39,7 @@ fn within(centre: i64, radius: i64, ceiling: i64) -> bool
     radius - ceiling <= centre && centre <= ceiling - radius
 }
 
+// A const parameter has no invariant of its own, so the functions of the type ask that it is a ceiling.
 impl<const CEILING: i64> Centred<CEILING> {
     // A centre and a radius, unless an end passes the ceiling.
     fn held(centre: i64, radius: i64, fault: FormFault) -> Result<Centred<CEILING>, FormFault>

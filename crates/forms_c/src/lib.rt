@@ -1,4 +1,5 @@
-// The ratio and the application of the projecting forms, for callers in C and Rust: numbers in, an answer out.
+// The ratio and the application of the projecting forms, for callers in C and Rust: numbers in, an answer out. C has no
+// generic functions and no tuples: each form exports functions and an answer of its own over one generic function here.
 #![tactic(auto)]
 
 pub mod centre;

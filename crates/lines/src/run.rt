@@ -62,7 +62,8 @@ fn step<F: ProjectingForm, S: FactorSource>(
     }
 }
 
-// Opens a book and makes the calls in order, as many as there is room for their outcomes; answers how many that were.
+// Opens a book and makes the calls in order, as many as there is room for their outcomes; answers how many that were. Both
+// are lent slices, since the engine allocates nothing.
 pub fn run<F: ProjectingForm, S: FactorSource>(
     source: &S,
     sizes: Sizes,
@@ -77,7 +78,7 @@ pub fn run<F: ProjectingForm, S: FactorSource>(
     let draft = Draft::open(sizes)?;
     let mut book = AnyBook::InDraft(draft);
     let room = calls.len().min(outcomes.len());
-    // by index: of outcomes that a zip's iter_mut wrote, a proof knows the number alone
+    // by index: tried with a zip, but of outcomes that an iter_mut wrote a proof knows the number alone
     for j in 0..room {
         (book, outcomes[j]) = step::<F, _>(source, book, calls[j]);
     }

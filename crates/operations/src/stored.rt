@@ -1,6 +1,6 @@
 // Amounts and factors of a form, made from two stored numbers.
-use forms::centre::{CentreRadius, FactorRadius};
-use forms::two_ends::{FactorEnds, TwoEnds};
+use forms::centre::Centred;
+use forms::two_ends::EndPair;
 
 // The lower and the upper end, or the centre and the radius, as typed.
 #[derive(Clone, Copy)]
@@ -9,36 +9,18 @@ pub(crate) struct Numbers {
     pub(crate) second: i64,
 }
 
-impl From<Numbers> for TwoEnds {
+impl<const CEILING: i64> From<Numbers> for EndPair<CEILING> {
     fn from(numbers: Numbers) -> Self {
-        TwoEnds {
+        EndPair {
             low: numbers.first,
             high: numbers.second,
         }
     }
 }
 
-impl From<Numbers> for FactorEnds {
+impl<const CEILING: i64> From<Numbers> for Centred<CEILING> {
     fn from(numbers: Numbers) -> Self {
-        FactorEnds {
-            low: numbers.first,
-            high: numbers.second,
-        }
-    }
-}
-
-impl From<Numbers> for CentreRadius {
-    fn from(numbers: Numbers) -> Self {
-        CentreRadius {
-            centre: numbers.first,
-            radius: numbers.second,
-        }
-    }
-}
-
-impl From<Numbers> for FactorRadius {
-    fn from(numbers: Numbers) -> Self {
-        FactorRadius {
+        Centred {
             centre: numbers.first,
             radius: numbers.second,
         }

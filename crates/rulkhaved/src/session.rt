@@ -57,6 +57,7 @@ impl Session {
     fn open(&mut self, sizes: Sizes, after: &[Item<'_>]) -> Result<Outcome, AllocError> {
         let calls = calls_of(self.heap, after)?;
         let mut outcomes = vec![in self.heap; Outcome::NotTaken(State::Drafted); calls.len()]?;
+        // a form is a type, with a constant and a type of its own, so no dyn and no closure can stand for it
         let ran = match self.form {
             FormName::Ends => run::<TwoEnds, Estimated>(&Estimated, sizes, &calls, &mut outcomes),
             FormName::Centre => {
@@ -91,7 +92,7 @@ impl Session {
     }
 }
 
-// What is printed for an input, and whether every line of it was understood.
+// What is printed for an input, and whether every line of it was understood; it is printed either way.
 #[derive(Drop)]
 pub(crate) struct Printed {
     pub(crate) text: String,
