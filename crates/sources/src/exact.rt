@@ -16,13 +16,6 @@ use forms::FormFault;
 use forms::whole::read;
 use gathering::Sheet;
 
-// A fault that arises in a source.
-pub(crate) fn declined(ground: Ground, place: Place) -> Fault
-    ensures { result ≡ fault_at OfSource place 0 ground }
-{
-    Fault::new(ground, Origin::OfSource, place)
-}
-
 // The number that a sum stands for, or its fault at the place.
 pub(crate) fn read_at(sum: Result<i64, FormFault>, place: Place) -> Result<i64, Fault>
     ensures value { told point result ≡ placed place (told whole_ends sum) }
@@ -49,7 +42,7 @@ pub fn not_negative(exposure: i64, place: Place) -> Result<(), Fault>
     ensures { MatchResult result (λ _. int_lt exposure (pos 0) ≡ false) (λ e. (int_lt exposure (pos 0) ≡ true) × (e ≡ fault_at OfSource place 0 NegativeExposure)) }
 {
     if exposure < 0 {
-        return Err(declined(Ground::NegativeExposure, place));
+        return Err(Fault::new(Ground::NegativeExposure, Origin::OfSource, place));
     }
     Ok(())
 }

@@ -9,8 +9,8 @@ ghost use Rattle.book.specs.Stored.{book_of};
 ghost use Rattle.sources.specs.Asked.{answer_in};
 ghost use Rattle.sources.specs.Estimates.{unless_cause};
 
-use crate::exact::{declined, gathered};
-use book::faults::{Fault, Ground, Place};
+use crate::exact::gathered;
+use book::faults::{Fault, Ground, Origin, Place};
 use book::kinds::Book;
 use gathering::Sheet;
 
@@ -40,10 +40,10 @@ impl<'a> Question<'a> {
             column,
         };
         if property >= book.sizes.properties {
-            return Err(declined(Ground::NoProperty, place));
+            return Err(Fault::new(Ground::NoProperty, Origin::OfSource, place));
         }
         if column >= book.sizes.columns - 1 {
-            return Err(declined(Ground::NoColumn, place));
+            return Err(Fault::new(Ground::NoColumn, Origin::OfSource, place));
         }
         Ok(Question {
             book,
