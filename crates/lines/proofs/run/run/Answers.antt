@@ -8,9 +8,3 @@ loop-j-preserved g c =
     let s = c.args.source.now in
     let R = reading (g.S.FactorSource.means s) (g.S.FactorSource.depth s) g.F.ProjectingForm.form in
     one_more R _ _ _ c.args.calls.now c.args.outcomes.now c.loop-j.outcomes c.loop-j.j _ c.step.result.1 c.loop-j.invariant (omega arith) (omega arith) c.step.ensures.next c.step.ensures.stands
-
-pub returns : goal.returns
-returns g c =
-    let end : c.loop-j.j ≡ c.min-room.result = omega arith in
-    let ran = rw end at c.loop-j.invariant in
-    (c.in_ok-draft.ensures.0, record { count = c.min-room.ensures; line = rw c.in_ok-draft.ensures.1 at ran.line; rest = ran.rest })
