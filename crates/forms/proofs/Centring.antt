@@ -1,5 +1,5 @@
 -- A centre and a radius, as the code tests and adds them.
-use Rattle.std.proofs.Common.{◌≡◌, ℕ, suc, ◌-◌, ◌*◌, ◌<◌, ◌≤◌, Bool, true, not, [], ◌∷◌, ℤ, pos, negsuc, ◌+ℤ◌, ◌-ℤ◌, ◌*ℤ◌, neg_ℤ, nat_abs, ◌≤ℤ◌, sym, ap, ◌∙◌, arith, lit<, lit≤, w64, SFits, to_z, of_z}
+use Rattle.std.proofs.Common.{◌≡◌, ℕ, suc, ◌-◌, ◌*◌, ◌<◌, ◌≤◌, Bool, true, false, not, [], ◌∷◌, ℤ, pos, negsuc, ◌+ℤ◌, ◌-ℤ◌, ◌*ℤ◌, neg_ℤ, nat_abs, ◌≤ℤ◌, sym, ap, ◌∙◌, arith, lit<, lit≤, w64, SFits, to_z, of_z}
 use native.Mathlib.Nat as N
 use lib.Signed.{lt_z, le_z}
 use Rattle.std.proofs.lemmas.Int.{ints, to_z-of_z}
@@ -15,8 +15,45 @@ use Rattle.algebra.proofs.Quote.{quotes, ring!, 0≤+}
 use Rattle.algebra.proofs.Fits.{centre_within, abs_product, size_fits}
 use Rattle.paper.specs.Numbers.{both}
 use Rattle.paper.specs.Sums.{sum_of_ends, multiple_of_ends}
-use Rattle.forms.specs.Centred.{around, centred}
+use Rattle.forms.specs.Centred.{around, centred, within_ceiling}
 use Rattle.forms.proofs.Reading.{both_eq}
+
+-- the tests that a radius passed, as facts
+pub record Passed (r C : ℤ) : Type 0 where
+  pub some : pos 0 ≤ℤ r
+  pub small : r ≤ℤ C
+  pub ceiling : C ≤ℤ pos 40000000000
+
+pub passed : (r C : ℤ) → SFits w64 r → SFits w64 C → C ≤ℤ pos 40000000000 →
+    lt_z (to_z w64 (of_z w64 r)) (pos 0) ≡ false → lt_z (to_z w64 (of_z w64 C)) (to_z w64 (of_z w64 r)) ≡ false → Passed r C
+passed r C fr fC h t₁ t₂ =
+    let er = to_z-of_z w64 r fr in
+    let eC = to_z-of_z w64 C fC in
+    let u₁ : lt_z r (pos 0) ≡ false = rw er at t₁ in
+    let u₂ : lt_z C r ≡ false = rw (eC, er) at t₂ in
+    record { some = grind (arith, ints); small = grind (arith, ints); ceiling = h }
+
+-- a bound of the centre, and the end that it is about
+low_moved : (c r C : ℤ) → le_z (r -ℤ C) c ≡ le_z (neg_ℤ C) (c -ℤ r)
+low_moved c r C = grind (arith, ints)
+
+high_moved : (c r C : ℤ) → le_z c (C -ℤ r) ≡ le_z (c +ℤ r) C
+high_moved c r C = grind (arith, ints)
+
+module _ (c r C : ℤ) (c-fits : SFits w64 c) (p : Passed r C) where
+  low_back : to_z w64 (of_z w64 (to_z w64 (of_z w64 r) -ℤ to_z w64 (of_z w64 C))) ≡ r -ℤ C
+  low_back = let a = p.some in let b = p.small in let f = p.ceiling in omega (arith, ints)
+
+  high_back : to_z w64 (of_z w64 (to_z w64 (of_z w64 C) -ℤ to_z w64 (of_z w64 r))) ≡ C -ℤ r
+  high_back = let a = p.some in let b = p.small in let f = p.ceiling in omega (arith, ints)
+
+  pub high_test : le_z (to_z w64 (of_z w64 (to_z w64 (of_z w64 r) -ℤ to_z w64 (of_z w64 C)))) (to_z w64 (of_z w64 c)) ≡ true →
+      le_z (to_z w64 (of_z w64 c)) (to_z w64 (of_z w64 (to_z w64 (of_z w64 C) -ℤ to_z w64 (of_z w64 r)))) ≡ within_ceiling c r C
+  high_test t =
+      let e = to_z-of_z w64 c c-fits in
+      let a : le_z (pos 0) r ≡ true = let h = p.some in grind (arith, ints) in
+      let b : le_z (neg_ℤ C) (c -ℤ r) ≡ true = sym (low_moved c r C) ∙ (rw (e, low_back) at t) in
+      rw (e, high_back, a, b) (high_moved c r C)
 
 -- ---- centres and radii that were read
 module _ (most : ℕ) (c r : ℤ) (top : most ≤ 40000000000) (s : CentreSize most c r) where
@@ -31,6 +68,9 @@ module _ (most : ℕ) (c r : ℤ) (top : most ≤ 40000000000) (s : CentreSize m
 
   pub radius_reads : to_z w64 (of_z w64 r) ≡ r
   radius_reads = to_z-of_z w64 r (size_fits r (N.le_trans r_size top))
+
+  pub radius_passed : Within most (to_z w64 (of_z w64 r))
+  radius_passed = rw radius_reads (record { size = r_size })
 
 -- the two ends of a centre and a radius, as the code makes them
 pub ends_read_around : (most : ℕ) (c r : ℤ) → most ≤ 40000000000 → CentreSize most c r →

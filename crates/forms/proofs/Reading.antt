@@ -6,7 +6,7 @@ use Rattle.algebra.proofs.Ints.{nn, 0≤*, *ℤ_mono}
 use Rattle.algebra.proofs.Quote.{quotes, cert, 0≤gap}
 use Rattle.algebra.proofs.Division.{floor_le, ceil_ge, cancel_lt}
 use Rattle.algebra.specs.Interval.{Ends, floor_div, ceil_div, least, greatest, apply}
-use Rattle.algebra.specs.Sizes.{ProductSize}
+use Rattle.algebra.specs.Sizes.{FactorSize, ProductSize}
 use Rattle.paper.proofs.EndsForm.{ends_lawful}
 use Rattle.paper.specs.EndsForm.{ends_mix}
 use Rattle.paper.specs.Numbers.{Amount, Factor, both}
@@ -107,6 +107,14 @@ factor_low_fits a b s = let p = s.low in let q = s.order in let r = s.high in om
 
 factor_high_fits : (a b : ℤ) → Factor (both a b) → SFits w64 b
 factor_high_fits a b s = let p = s.low in let q = s.order in let r = s.high in omega (arith, ints)
+
+-- the sizes of a factor's ends, as a call is passed them
+pub factor_sizes : (a b : ℤ) → Factor (both a b) → FactorSize (to_z w64 (of_z w64 a)) × FactorSize (to_z w64 (of_z w64 b))
+factor_sizes a b s =
+    let p = s.low in
+    let q = s.order in
+    let r = s.high in
+    (rw (back a (factor_low_fits a b s)) (record { size = omega (arith, ints) }), rw (back b (factor_high_fits a b s)) (record { size = omega (arith, ints) }))
 
 ordered_in : (l h : ℤ) → l ≤ℤ h → T (le_z l h)
 ordered_in l h o = o.le

@@ -25,6 +25,11 @@ radius_is c =
     let v : c.inexact-more.result ≡ rest c.args.z (nat_abs c.args.d) = cc in
     rw (r, m, u, v)
 
+pub overflow_add-result : goal.overflow_add-result
+overflow_add-result c =
+    rw (radius_is c)
+    (radius_fits c.args.z c.args.x (nat_abs c.args.d) (thousand c.args.d c.requires.divisor.0) c.requires.sizes.0.size c.requires.sizes.1.0.size c.requires.sizes.1.1)
+
 pub returns : goal.returns
 returns c =
     let h = thousand c.args.d c.requires.divisor.0 in

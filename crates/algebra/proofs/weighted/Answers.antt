@@ -15,6 +15,9 @@ sum_is c =
     let other = to_z-of_z w64 c.product-other.result (record { sfits = c.product-other.type_inv }) in
     cc
 
+pub overflow_add-result : goal.overflow_add-result
+overflow_add-result c = rw (sum_is c) (weighted_fits (1000 - c.args.w) c.args.w c.args.x c.args.y (omega arith) c.requires.0 c.requires.1.0.size c.requires.1.1.size)
+
 pub returns : goal.returns
 returns c =
     let small = weighted_small (1000 - c.args.w) c.args.w c.args.x c.args.y (omega arith) c.requires.0 c.requires.1.0.size c.requires.1.1.size in

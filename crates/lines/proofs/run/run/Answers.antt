@@ -1,4 +1,4 @@
-use Rattle.std.proofs.Common.{◌≡◌, arith}
+use Rattle.std.proofs.Common.{arith}
 use Rattle.lines.specs.Line.{reading}
 use Rattle.lines.proofs.Lines.{one_more}
 use Rattle.lines.proofs.run.run.Goals as goal

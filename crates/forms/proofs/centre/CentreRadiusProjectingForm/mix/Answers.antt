@@ -1,7 +1,10 @@
-use Rattle.std.proofs.Common.{ap, ◌∙◌}
+use Rattle.std.proofs.Common.{lit≤, ap, ◌∙◌}
 use Rattle.forms.specs.Told.{factor_ceiled}
-use Rattle.forms.proofs.Centring.{fits_within, mix_around, mix_passed}
+use Rattle.forms.proofs.Centring.{radius_passed, fits_within, mix_around, mix_passed}
 use Rattle.forms.proofs.centre.CentreRadiusProjectingForm.mix.Goals as goal
+
+pub weighted-apart-requires : goal.weighted-apart-requires
+weighted-apart-requires c = (c.requires, (radius_passed 200000000 _ _ (lit≤ tt) c.read-c.ensures.size, radius_passed 200000000 _ _ (lit≤ tt) c.read-e.ensures.size))
 
 pub rounded_around-centre-requires-clause-sizes : goal.rounded_around-centre-requires-clause-sizes
 rounded_around-centre-requires-clause-sizes c =

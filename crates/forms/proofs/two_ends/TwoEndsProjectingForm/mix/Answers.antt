@@ -1,7 +1,10 @@
 use Rattle.std.proofs.Common.{ap, ◌∙◌}
 use Rattle.forms.specs.Told.{factor_ceiled}
-use Rattle.forms.proofs.Reading.{asked, mix_ends, mix_order}
+use Rattle.forms.proofs.Reading.{factor_sizes, asked, mix_ends, mix_order}
 use Rattle.forms.proofs.two_ends.TwoEndsProjectingForm.mix.Goals as goal
+
+pub weighted-greatest-requires : goal.weighted-greatest-requires
+weighted-greatest-requires c = (c.requires, ((factor_sizes _ _ c.read-a.ensures.within).1, (factor_sizes _ _ c.read-c.ensures.within).1))
 
 pub held-requires : goal.held-requires
 held-requires c =
