@@ -30,7 +30,7 @@ pub enum Origin {
     OfSource = 2,
 }
 
-// A number that does not apply is 0.
+// A number that does not apply is 0, as a place is printed.
 #[derive(Clone, Copy, PartialEq, Eq, PartialOrd, Ord, Hash, Default, Debug)]
 pub struct Place {
     pub property: usize,

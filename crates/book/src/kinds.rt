@@ -4,7 +4,7 @@ ghost use Rattle.book.specs.Limits.{ReadsWithin, IsEntry};
 
 use crate::rules::RuleTable;
 
-#[derive(Clone, Copy, PartialEq, Eq, Debug)]
+#[derive(Clone, Copy, PartialEq, Eq, Hash, Debug)]
 pub struct Sizes {
     pub properties: usize,
     pub rows: usize,

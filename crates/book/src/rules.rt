@@ -15,8 +15,8 @@ pub struct Term {
 }
 
 // A list of at most six terms. It is an array with a length, since the engine holds books in fixed memory and allocates
-// nothing; past the length stand blank terms.
-#[derive(Clone, Copy)]
+// nothing, and is `Copy`, as the kit's `ArrayVec` is not; past the length stand blank terms.
+#[derive(Clone, Copy, PartialEq, Eq, Debug)]
 pub struct Rule {
     len: usize,
     terms: [Term; 6],
@@ -57,6 +57,7 @@ impl Rule {
 
     pub fn terms(&self) -> &[Term]
         ensures value { result.now ≡ self.now }
+        ensures few { length result.now ≤ 6 }
         ensures each { All IsRuleTerm result.now }
     {
         &self.terms[..self.len]
@@ -80,7 +81,7 @@ impl Rule {
 }
 
 // A record for each property that a book may have: a plain table by a rule of the project, in fixed memory.
-#[derive(Clone, Copy)]
+#[derive(Clone, Copy, PartialEq, Eq, Debug)]
 pub struct RuleTable {
     pub records: [Rule; 4],
 }

@@ -53,16 +53,17 @@ fn calls(heap: Global, entries: &[Entry]) -> Result<Vec<Call>, AllocError> {
     Ok(calls)
 }
 
-// The ends of the first factor of a book with these entries, or the number of the ground and the row of its refusal.
+// The ends of the first factor of a book with these entries, or the number of the ground, as docs/ give it, and the row of
+// its refusal. There is room for more outcomes than calls.
 fn factor(
     heap: Global,
     sizes: Sizes,
     entries: &[Entry],
 ) -> Result<Result<(i64, i64), (u8, usize)>, Fail> {
     let calls = calls(heap, entries)?;
-    let mut outcomes = vec![in heap; Outcome::NotTaken(State::Drafted); calls.len()]?;
-    let _ = run::<TwoEnds, Estimated>(&Estimated, sizes, &calls, &mut outcomes)?;
-    match outcomes.last() {
+    let mut outcomes = [Outcome::NotTaken(State::Drafted); 12];
+    let count = run::<TwoEnds, Estimated>(&Estimated, sizes, &calls, &mut outcomes)?;
+    match outcomes.iter().take(count).last() {
         Some(&Outcome::Between(low, high)) => Ok(Ok((low, high))),
         Some(Outcome::Refused(fault)) => Ok(Err((fault.ground.number(), fault.place.row))),
         _ => Err(Fail::new("no factor")),

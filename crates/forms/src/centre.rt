@@ -39,7 +39,8 @@ fn within(centre: i64, radius: i64, ceiling: i64) -> bool
     radius - ceiling <= centre && centre <= ceiling - radius
 }
 
-// A const parameter has no invariant of its own, so the functions of the type ask that it is a ceiling.
+// That the const parameter is a ceiling stays a clause, and the fault a parameter: a type parameter that carried both would need a
+// field of its own in each literal.
 impl<const CEILING: i64> Centred<CEILING> {
     // A centre and a radius, unless an end passes the ceiling.
     fn held(centre: i64, radius: i64, fault: FormFault) -> Result<Centred<CEILING>, FormFault>

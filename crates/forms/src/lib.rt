@@ -13,7 +13,7 @@ pub mod two_ends;
 pub mod whole;
 
 // What a form refuses with, by the number of its ground. A form knows no place: its caller adds it.
-#[derive(Clone, Copy, PartialEq, Eq, Debug)]
+#[derive(Clone, Copy, PartialEq, Eq, Hash, Debug)]
 pub enum FormFault {
     AmountCeiling = 14,
     FactorCeiling = 15,
@@ -35,7 +35,7 @@ pub(crate) const WEIGHTS: i64 = 1000;
 pub fn is_amount(hundredths: i64) -> bool
     ensures { result ≡ inside (point hundredths) }
 {
-    -AMOUNT_CEILING <= hundredths && hundredths <= AMOUNT_CEILING
+    (-AMOUNT_CEILING..=AMOUNT_CEILING).contains(&hundredths)
 }
 
 // An amount between two ends, with sums and multiples. A result past the ceiling is refused, exactly then.

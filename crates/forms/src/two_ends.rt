@@ -25,7 +25,8 @@ pub type TwoEnds = EndPair<AMOUNT_CEILING>;
 // A factor between two ends.
 pub type FactorEnds = EndPair<FACTOR_CEILING>;
 
-// A const parameter has no invariant of its own, so the functions of the type ask that it is a ceiling.
+// That the const parameter is a ceiling stays a clause, and the fault a parameter: a type parameter that carried both would need a
+// field of its own in each literal.
 impl<const CEILING: i64> EndPair<CEILING> {
     // The two numbers, unless one passes the ceiling.
     fn held(low: i64, high: i64, fault: FormFault) -> Result<EndPair<CEILING>, FormFault>

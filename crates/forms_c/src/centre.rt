@@ -6,7 +6,8 @@ ghost use Rattle.forms_c.specs.Answered.{ratio_of, application_of, centre_amount
 use crate::{apply, ratio};
 use forms::centre::{CentreRadius, Centred, FactorRadius};
 
-// The centre and the radius of a result. A refused one has none: both are 0. C has no Option, so a flag stands beside the numbers.
+// The centre and the radius of a result. A refused one has none: both are 0. C has no Option, so a flag stands
+// beside the numbers, and the functions say so: a ghost field would stand in each definition of an answer.
 #[repr(C)]
 #[derive(Clone, Copy, PartialEq, Eq, Debug)]
 pub struct CentreAnswer {

@@ -6,7 +6,8 @@ ghost use Rattle.forms_c.specs.Answered.{ratio_of, application_of, ends_amount, 
 use crate::{apply, ratio};
 use forms::two_ends::{EndPair, FactorEnds, TwoEnds};
 
-// The ends of a result. A refused one has none: both are 0. C has no Option, so a flag stands beside the numbers.
+// The ends of a result. A refused one has none: both are 0. C has no Option, so a flag stands
+// beside the numbers, and the functions say so: a ghost field would stand in each definition of an answer.
 #[repr(C)]
 #[derive(Clone, Copy, PartialEq, Eq, Debug)]
 pub struct EndsAnswer {

@@ -24,7 +24,8 @@ pub fn sum_all<F: SummingForm>(cells: &[F]) -> Result<F, FormFault>
     Ok(sum)
 }
 
-// Lent amounts, and the sizes of the book whose cells they are.
+// Lent amounts, and the sizes of the book whose cells they are. The sizes are those that callers give: a type that kept their
+// bounds would be a second type of sizes. That a row is one of them stays a clause, since it is said of an argument.
 #[derive(Drop)]
 pub struct Sheet<'a, F> {
     pub sizes: Sizes,

@@ -34,12 +34,16 @@ abbrev pub opening : Sizes → Paper
 opening s = record { state = Drafted; book = opened s.properties s.rows s.columns }
 
 abbrev pub takes : State → Call → Bool
+takes Drafted (Enter p a) = true
+takes Drafted (AddTerm m t) = true
+takes Drafted Close = true
 takes Drafted (AskFactor m k) = false
 takes Drafted Reopen = false
-takes Drafted _ = true
+takes Closed (Enter p a) = false
+takes Closed (AddTerm m t) = false
+takes Closed Close = false
 takes Closed (AskFactor m k) = true
 takes Closed Reopen = true
-takes Closed _ = false
 
 -- whether a call was accepted: all that the paper run is told of its outcome
 abbrev pub accepted : Outcome → Bool

@@ -78,7 +78,7 @@ pub fn run<F: ProjectingForm, S: FactorSource>(
     let draft = Draft::open(sizes)?;
     let mut book = AnyBook::InDraft(draft);
     let room = calls.len().min(outcomes.len());
-    // by index: tried with a zip, but of outcomes that an iter_mut wrote a proof knows the number alone
+    // by index: tried with a zip of both, but of what is written through it a proof knows the number alone
     for j in 0..room {
         (book, outcomes[j]) = step::<F, _>(source, book, calls[j]);
     }

@@ -13,7 +13,7 @@ fn answer(line: Line<'_>) -> Result<Option<(i64, i64)>, Unanswered> {
     let Some(Request { form, operation }) = line.read(Request::parse)? else {
         return Ok(None);
     };
-    // a form is a type, with a constant and a type of its own, so no dyn and no closure can stand for it
+    // a form is a type, with a constant and a type of its own: no dyn can stand for it, and a closure is no plainer
     let ends = match form {
         FormName::Ends => operation.worked::<TwoEnds>()?,
         FormName::Centre => operation.worked::<CentreRadius>()?,

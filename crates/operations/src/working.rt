@@ -13,7 +13,7 @@ pub(crate) enum Operation {
     Times(i64, Numbers),
     Exact(i64),
     Ratio(i64, i64),
-    Mix(i64, Numbers, Numbers),
+    Mix(u16, Numbers, Numbers),
     Apply(Numbers, Numbers),
 }
 
@@ -34,8 +34,8 @@ impl Operation {
             Operation::Ratio(p @ AMOUNT_FLOOR..=AMOUNT_CEILING, q @ 1..=AMOUNT_CEILING) => {
                 Ok(F::factor_pair(&F::ratio(p, q)?))
             }
-            Operation::Mix(weight @ 0..=1000, f, g) => {
-                Ok(F::factor_pair(&F::mix(weight as u16, &f.into(), &g.into())?))
+            Operation::Mix(weight @ ..=1000, f, g) => {
+                Ok(F::factor_pair(&F::mix(weight, &f.into(), &g.into())?))
             }
             Operation::Apply(f, a) => Ok(F::apply(&f.into(), &a.into())?.pair()),
             _ => Err(NotUnderstood.into()),

@@ -57,7 +57,7 @@ impl Session {
     fn open(&mut self, sizes: Sizes, after: &[Item<'_>]) -> Result<Outcome, AllocError> {
         let calls = calls_of(self.heap, after)?;
         let mut outcomes = vec![in self.heap; Outcome::NotTaken(State::Drafted); calls.len()]?;
-        // a form is a type, with a constant and a type of its own, so no dyn and no closure can stand for it
+        // a form is a type, with a constant and a type of its own: no dyn can stand for it, and a closure is no plainer
         let ran = match self.form {
             FormName::Ends => run::<TwoEnds, Estimated>(&Estimated, sizes, &calls, &mut outcomes),
             FormName::Centre => {

@@ -14,10 +14,11 @@ use book::faults::{Fault, Placing};
 use book::kinds::Book;
 use forms::{FormFault, ProjectingForm, SummingForm};
 
-#[derive(Clone, Copy)]
+#[derive(Clone, Copy, PartialEq, Eq, Debug)]
 pub struct Estimated;
 
-// The next amounts and the exposures of the rows so far.
+// The next amounts and the exposures of the rows so far. That they have a quotient stays a clause, since definitions speak of
+// totals that have none.
 #[derive(Clone, Copy, Default, PartialEq, Eq, Debug)]
 pub struct Totals {
     pub amounts: i64,

@@ -16,7 +16,8 @@ use forms::FormFault;
 use forms::whole::read;
 use gathering::Sheet;
 
-// The number that a sum stands for, or its fault at the place.
+// The number that a sum stands for, or its fault at the place. That it is an amount stays a clause here and above: a number of its
+// own type would be unwrapped at each sum.
 pub(crate) fn read_at(sum: Result<i64, FormFault>, place: Place) -> Result<i64, Fault>
     ensures value { told point result ≡ placed place (told whole_ends sum) }
     ensures amount { IfOk result (λ v. Amount (point v)) }

@@ -9,7 +9,7 @@ ghost use Rattle.typed.specs.Reading.{is_skipped, ReadsWhole};
 use crate::words::{NotUnderstood, Words};
 use std::fmt;
 
-#[derive(Clone, Copy)]
+#[derive(Clone, Copy, PartialEq, Eq, Debug)]
 pub struct Line<'a>(pub &'a str);
 
 impl<'a> Line<'a> {
