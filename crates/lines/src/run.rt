@@ -10,7 +10,8 @@ use engine::states::{Closed, Draft};
 use forms::ProjectingForm;
 use sources::source::FactorSource;
 
-// One call on a draft.
+// One call on a draft. What a step owes stays two clauses, and its reading is spelled out in each: the check finds the first alone,
+// and a struct for the source and its form would make every caller of `run` build one.
 fn draft_step(mut draft: Draft, call: Call) -> (AnyBook, Outcome)
     ensures next { paper_of result.0 ≡ paper_next (paper_of (AnyBook.InDraft draft)) call (accepted result.1) }
     ensures stands { (R : Reading) → Stands R (paper_of (AnyBook.InDraft draft)) call result.1 }
