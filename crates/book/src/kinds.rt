@@ -12,7 +12,8 @@ pub struct Sizes {
 }
 
 impl Sizes {
-    // Where row i of property m begins among a book's amounts; column k stands k places on.
+    // Where row i of property m begins among a book's amounts; column k stands k places on. The bounds stay clauses: these are
+    // the sizes that callers give, also to be refused, and each user asks a part of them.
     pub fn row_start(&self, m: usize, i: usize) -> usize
         requires bounds { (self.now.rows ≤ 16) × (self.now.columns ≤ 12) }
         requires place { (m < 4) × (i < 16) }
@@ -22,7 +23,8 @@ impl Sizes {
     }
 }
 
-// The amounts are an array for the largest book, since a book lies in fixed memory; the sizes say which of them count.
+// The amounts are an array for the largest book, since a book lies in fixed memory; the sizes say which of them count. A book
+// keeps more of its sizes than a sheet or `row_start` asks, so a type of kept sizes would ask more of their callers.
 #[derive(Drop)]
 pub struct Book {
     pub sizes: Sizes,

@@ -53,8 +53,8 @@ fn calls(heap: Global, entries: &[Entry]) -> Result<Vec<Call>, AllocError> {
     Ok(calls)
 }
 
-// The ends of the first factor of a book with these entries, or the number of the ground, as docs/ give it, and the row of
-// its refusal. There is room for more outcomes than calls.
+// The ends of the first factor of a book with these entries, or the number of the ground and the row of its refusal: tests
+// keep the numbers that docs/ give. There is room for more outcomes than calls.
 fn factor(
     heap: Global,
     sizes: Sizes,

@@ -24,8 +24,8 @@ pub fn sum_all<F: SummingForm>(cells: &[F]) -> Result<F, FormFault>
     Ok(sum)
 }
 
-// Lent amounts, and the sizes of the book whose cells they are. The sizes are those that callers give: a type that kept their
-// bounds would be a second type of sizes. That a row is one of them stays a clause, since it is said of an argument.
+// Lent amounts, and the sizes of the book whose cells they are. The bounds stand here too,
+// since a book keeps more of its sizes than a sheet may ask. That a row is one of them stays a clause: it is said of an argument.
 #[derive(Drop)]
 pub struct Sheet<'a, F> {
     pub sizes: Sizes,

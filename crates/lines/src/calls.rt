@@ -1,5 +1,5 @@
-// The calls of a line, and what each comes to. Plain enums: a line lies in lent slices with no heap, and its law goes by
-// cases.
+// The calls of a line, and what each comes to. An outcome is no `Result`: a line goes on after a refusal, so no one passes one on
+// by `?`, and the law has a clause for each of its four cases.
 ghost use Rattle.std.specs.Prelude.{◌≡◌, MatchResult};
 ghost use Rattle.lines.specs.declared.calls.Outcome.TheVariants.{Accepted, Between, Refused};
 

@@ -47,8 +47,8 @@ fn closed_step<F: ProjectingForm, S: FactorSource>(
     (AnyBook::InClosed(closed), outcome)
 }
 
-// One call: what the state takes is done, and what it does not take changes nothing. By match on the state: a closure or
-// a dyn for each call would need a heap, or hide the call from the law.
+// One call: what the state takes is done, and what it does not take changes nothing. By match on the state, and then on
+// the call: a closure or a dyn for each call would need a heap, or hide the call from the law.
 fn step<F: ProjectingForm, S: FactorSource>(
     source: &S,
     book: AnyBook,

@@ -32,7 +32,7 @@ impl Totals {
             result ≡ unless_cause q.property q.column (rows_cause b q.property q.column) (totals_through b q.property q.column (seen b q.column)) }
         ensures kept { IfOk result HasQuotient }
     {
-        // a loop and not `try_fold`: its invariant keeps what `with_row` asks of the totals
+        // over row numbers; a `try_fold` was tried and left three goals open: the loop's invariant keeps what `with_row` asks
         let mut so_far = Totals::default();
         for row in 0..question.book.sizes.rows - (question.column + 1) {
             so_far = so_far.with_row(question, row)?;

@@ -26,7 +26,8 @@ pub(crate) fn read_at(sum: Result<i64, FormFault>, place: Place) -> Result<i64, 
     Ok(read(&sum))
 }
 
-// The exposure at a place, or the fault of the first step past the ceiling.
+// The exposure at a place, or the fault of the first step past the ceiling. That the place is the book's stays a clause, since
+// places are made to be refused as well.
 pub fn gathered(book: &Book, place: Place) -> Result<i64, Fault>
     requires { (place.property < book.now.sizes.properties) × (place.row < book.now.sizes.rows) × (place.column < book.now.sizes.columns) }
     ensures value { let b = book_of book.now in

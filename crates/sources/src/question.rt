@@ -14,7 +14,8 @@ use book::faults::{Fault, Ground, Origin, Place};
 use book::kinds::Book;
 use gathering::Sheet;
 
-// Asks for the factor of a property from a column to the next; the book has the property and both columns.
+// Asks for the factor of a property from a column to the next; the book has the property and both columns. That a row is one of
+// the book's stays a clause: it is said of an argument.
 #[derive(Clone, Copy)]
 pub struct Question<'a> {
     pub book: &'a Book,
