@@ -4,4 +4,5 @@
 pub mod estimated;
 pub mod exact;
 pub mod question;
+pub mod selected;
 pub mod source;
