@@ -1,3 +1,4 @@
 pub mod Asked
 pub mod Estimates
 pub mod Selecting
+pub mod Weighings
