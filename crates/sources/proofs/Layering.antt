@@ -1,5 +1,5 @@
 -- What a layer answers, by what the source below it answered.
-use Rattle.std.proofs.Common.{◌≡◌, ℕ, zero, suc, ◌+◌, ◌-◌, ◌<◌, ◌≤◌, min, Bool, true, false, cond, ltb, List, [], ◌∷◌, ◌++◌, map, ℤ, pos, negsuc, nat_abs, ◌<ℤ◌, Some, None, Ok, Err, Option, Result, sym, refl, ap, ◌∙◌, append_assoc, arith}
+use Rattle.std.proofs.Common.{◌≡◌, ℕ, zero, suc, ◌+◌, ◌-◌, min, Bool, true, false, cond, ltb, List, [], ◌∷◌, ◌++◌, map, ℤ, pos, negsuc, nat_abs, ◌<ℤ◌, Some, None, Ok, Err, Option, Result, sym, refl, ap, ◌∙◌, append_assoc, arith}
 use Rattle.std.proofs.lemmas.Int.{ints}
 use Rattle.std.proofs.lemmas.List.{map-append}
 use lib.Signed.{lt_z}
@@ -8,7 +8,6 @@ use Rattle.paper.specs.Numbers.{factor_inside}
 use Rattle.paper.specs.Forms.{Form}
 use Rattle.paper.specs.Books.{Book}
 use Rattle.paper.specs.Sources.{Cause, no_property, no_column, negative_exposure, amount_past, Step, Meaning, factor, cause, steps_in, or_else, exact_exposure, next_amount, seen, quotient_step}
-use Rattle.paper.specs.Laws.{AskedWithin, Sound}
 use Rattle.paper.specs.Layers.{under, passed_up, own_cause, own_step, mixed_step, unless_own, weighed, weighed_with, layer_on}
 use Rattle.forms.specs.declared.FormFault.{FormFault}
 use Rattle.forms.specs.declared.FormFault.TheVariants as form
@@ -180,12 +179,17 @@ module _ (F : Form) (m k : ℕ) where
             go (pos (suc q)) l = let t : lt_z (pos 0) (pos (suc q)) ≡ true = grind (arith, ints) in rw t (weighed_answer (next_amount b m k i) q)
             go (negsuc q) l = absurd (omega (arith, ints))
 
-        module _ {V : Type 0} (means : V → Ends) (r : Result V FormFault) (r-is : told means r ≡ factor_ceiled (F.ratio (next_amount b m k i) (nat_abs own))) where
-          -- the row's own factor passes the ceiling
+        -- the row's own factor, as it is asked of a form
+        module _ {V : Type 0} (means : V → Ends) (r : Result V FormFault) (n x : ℤ) (n-is : n ≡ next_amount b m k i) (x-is : x ≡ own)
+            (r-is : told means r ≡ factor_ceiled (F.ratio n (nat_abs x))) where
+          ratio_is : told means r ≡ factor_ceiled (F.ratio (next_amount b m k i) (nat_abs own))
+          ratio_is = rw (← n-is, ← x-is) r-is
+
+          -- it passes the ceiling
           pub own_refused : (f : Fault) → Err f ≡ placed (at_place m 0 k) r → Err f ≡ answer_in F m k (weighed_with b m k i w before s)
-          own_refused f e = rw row_is (refused (F.ratio (next_amount b m k i) (nat_abs own)) means r r-is f e)
+          own_refused f e = rw row_is (refused (F.ratio (next_amount b m k i) (nat_abs own)) means r ratio_is f e)
 
           -- it is mixed with the factor below
           pub own_mixed : (v : V) → Ok v ≡ placed (at_place m 0 k) r → (mix : Result V FormFault) → told means mix ≡ factor_ceiled (F.mix w e (means v)) →
               told means (placed (at_place m 0 k) mix) ≡ answer_in F m k (weighed_with b m k i w before s)
-          own_mixed v v-is mix mix-is = rw row_is (mixes (F.ratio (next_amount b m k i) (nat_abs own)) means r r-is v v-is mix mix-is)
+          own_mixed v v-is mix mix-is = rw row_is (mixes (F.ratio (next_amount b m k i) (nat_abs own)) means r ratio_is v v-is mix mix-is)

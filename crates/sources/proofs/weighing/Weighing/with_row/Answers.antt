@@ -1,7 +1,6 @@
-use Rattle.std.proofs.Common.{◌≡◌, pos, ◌<ℤ◌, ℤ, nat_abs, sym, ap, ap₂, ◌∙◌, arith, w64, to_z, of_z, rules}
+use Rattle.std.proofs.Common.{◌≡◌, pos, ◌<ℤ◌, sym, ap, ◌∙◌, arith, w64, to_z, of_z, rules}
 use Rattle.std.proofs.lemmas.Result.{err_from_is_err_and}
 use Rattle.std.proofs.lemmas.Int.{ints, to_z-of_z}
-use Rattle.forms.specs.Told.{factor_ceiled}
 use Rattle.book.specs.declared.faults.Place.{Place}
 use Rattle.book.specs.Grounds.{placed}
 use Rattle.book.specs.Stored.{book_of}
@@ -16,11 +15,10 @@ returns-in_err-own g c =
     let above : pos 0 <ℤ exposure = grind (arith, ints, c.in_ok-exposure.ensures.not_negative) in
     let p = err_from_is_err_and c.from_residual-in_err-own.result c.from_residual-in_err-own.ensures.1 in
     let next : to_z w64 (of_z w64 c.following.result) ≡ c.following.result = to_z-of_z w64 c.following.result (search rules) in
-    let ratio = c.ratio.ensures ∙ ap₂ (λ (n x : ℤ). factor_ceiled (g.F.ProjectingForm.form.ratio n (nat_abs x))) (next ∙ c.following.ensures.value) back in
     λ before s h.
     rw (p.1, p.2)
     (own_refused g.F.ProjectingForm.form q.property q.column (book_of q.book.now) c.args.row c.args.self.weight before s (g.F.ProjectingForm.fends c.args.below) h
-    exposure c.in_ok-exposure.ensures.value above g.F.ProjectingForm.fends c.ratio.result ratio c.in_err-own.field-0.0
+    exposure c.in_ok-exposure.ensures.value above g.F.ProjectingForm.fends c.ratio.result _ _ (next ∙ c.following.ensures.value) back c.ratio.ensures c.in_err-own.field-0.0
     (sym c.in_err-own.was ∙ c.at.ensures ∙ ap (λ (x : Place). placed x c.ratio.result) c.place-place.ensures))
 
 pub returns : goal.returns
@@ -30,9 +28,8 @@ returns g c =
     let back : to_z w64 (of_z w64 exposure) ≡ exposure = to_z-of_z w64 exposure (search rules) in
     let above : pos 0 <ℤ exposure = grind (arith, ints, c.in_ok-exposure.ensures.not_negative) in
     let next : to_z w64 (of_z w64 c.following.result) ≡ c.following.result = to_z-of_z w64 c.following.result (search rules) in
-    let ratio = c.ratio.ensures ∙ ap₂ (λ (n x : ℤ). factor_ceiled (g.F.ProjectingForm.form.ratio n (nat_abs x))) (next ∙ c.following.ensures.value) back in
     λ before s h.
     rw (c.at-2.ensures, c.place-place.ensures)
     (own_mixed g.F.ProjectingForm.form q.property q.column (book_of q.book.now) c.args.row c.args.self.weight before s (g.F.ProjectingForm.fends c.args.below) h
-    exposure c.in_ok-exposure.ensures.value above g.F.ProjectingForm.fends c.ratio.result ratio c.in_ok-own.own
+    exposure c.in_ok-exposure.ensures.value above g.F.ProjectingForm.fends c.ratio.result _ _ (next ∙ c.following.ensures.value) back c.ratio.ensures c.in_ok-own.own
     (sym c.in_ok-own.was ∙ c.at.ensures ∙ ap (λ (x : Place). placed x c.ratio.result) c.place-place.ensures) c.mix.result c.mix.ensures)
