@@ -1,9 +1,9 @@
 -- The grounds for declining a call: their numbers, and the first of several.
-use Rattle.std.specs.Prelude.{ℕ, Bool, cond, List, [], ◌∷◌, Some, None, Ok, Err, Option, Result}
+use Rattle.std.specs.Prelude.{ℕ, ◌+◌, min, Bool, cond, List, [], ◌∷◌, Some, None, Ok, Err, Option, Result}
 use Rattle.forms.specs.declared.FormFault.{FormFault}
 use Rattle.forms.specs.declared.FormFault.TheVariants as form
 use Rattle.book.specs.declared.faults.Ground.{Ground}
-use Rattle.book.specs.declared.faults.Ground.TheVariants.{SizesOutside, NoProperty, NoRow, NoColumn, NotObserved, EntryLimit, ShiftOutside, NoReach, CoefficientOutside, RuleFull, NegativeExposure, AmountCeiling, FactorCeiling}
+use Rattle.book.specs.declared.faults.Ground.TheVariants.{SizesOutside, NoProperty, NoRow, NoColumn, NotObserved, EntryLimit, ShiftOutside, NoReach, CoefficientOutside, RuleFull, FactorOutside, WeighingOutside, NegativeExposure, AmountCeiling, FactorCeiling}
 use Rattle.book.specs.declared.faults.Origin.{Origin}
 use Rattle.book.specs.declared.faults.Origin.TheVariants.{OfBook, OfForm, OfSource}
 use Rattle.book.specs.declared.faults.Place.{Place}
@@ -20,6 +20,8 @@ number ShiftOutside = 7
 number NoReach = 8
 number CoefficientOutside = 9
 number RuleFull = 10
+number FactorOutside = 11
+number WeighingOutside = 12
 number NegativeExposure = 13
 number AmountCeiling = 14
 number FactorCeiling = 15
@@ -56,3 +58,11 @@ form_ground form.FactorCeiling = FactorCeiling
 abbrev pub placed : {V : Type 0} → Place → Result V FormFault → Result V Fault
 placed p (Ok v) = Ok v
 placed p (Err f) = Err (fault_at OfForm p 0 (form_ground f))
+
+-- a fault with one credibility layer more above it; layers are counted up to 255
+abbrev pub under_layer : Fault → Fault
+under_layer f = record f { layers = min (f.layers + 1) 255 }
+
+abbrev pub from_below : {V : Type 0} → Result V Fault → Result V Fault
+from_below (Ok v) = Ok v
+from_below (Err f) = Err (under_layer f)

@@ -1,6 +1,6 @@
 // Why a call is declined: a ground, where it arose, the place, and the credibility layers above.
 ghost use Rattle.std.specs.Prelude.{◌≡◌, Result};
-ghost use Rattle.book.specs.Grounds.{number, origin_number, form_ground, fault_at, placed};
+ghost use Rattle.book.specs.Grounds.{number, origin_number, form_ground, fault_at, placed, under_layer, from_below};
 ghost use Rattle.book.specs.declared.faults.Place.{Place};
 ghost use Rattle.book.specs.declared.faults.Fault.{Fault};
 
@@ -18,6 +18,8 @@ pub enum Ground {
     NoReach = 8,
     CoefficientOutside = 9,
     RuleFull = 10,
+    FactorOutside = 11,
+    WeighingOutside = 12,
     NegativeExposure = 13,
     AmountCeiling = 14,
     FactorCeiling = 15,
@@ -85,6 +87,16 @@ impl Fault {
             layers: 0,
         }
     }
+
+    // The fault with one credibility layer more above it; layers are counted up to 255.
+    pub fn under_layer(self) -> Self
+        ensures { result ≡ under_layer self }
+    {
+        Fault {
+            layers: self.layers.saturating_add(1),
+            ..self
+        }
+    }
 }
 
 // The form knows no place: its caller adds it.
@@ -104,5 +116,21 @@ impl<V> Placing for Result<V, FormFault> {
 
     fn at(self, place: Place) -> Result<V, Fault> {
         self.map_err(|fault| Fault::new(fault.into(), Origin::OfForm, place))
+    }
+}
+
+// What comes from below a credibility layer: the layer counts in its fault.
+pub trait Passing {
+    ghost passing: { Self → Self };
+
+    fn above(self) -> Self
+        ensures { result ≡ passing self };
+}
+
+impl<V> Passing for Result<V, Fault> {
+    ghost passing = { from_below };
+
+    fn above(self) -> Result<V, Fault> {
+        self.map_err(|fault| fault.under_layer())
     }
 }

@@ -30,6 +30,10 @@ impl fmt::Display for Fault {
             Ground::NoReach => f.write_str("a reach is 0, 1 or 2"),
             Ground::CoefficientOutside => f.write_str("a coefficient is -100 to 100 and not 0"),
             Ground::RuleFull => f.write_str("the rule has six terms already"),
+            Ground::FactorOutside => { f.write_str("a selected factor is -200000000 to 200000000") }
+            Ground::WeighingOutside => {
+                f.write_str("a lag is 0 to 15 rows, and a weight 0 to 1000")
+            }
             Ground::NegativeExposure => {
                 write!(
                     f,

@@ -9,7 +9,7 @@ use sources::estimated::Estimated;
 use std::alloc::{AllocError, Global};
 use std::test::Fail;
 
-fn sizes(rows: usize, columns: usize) -> Sizes {
+pub(crate) fn sizes(rows: usize, columns: usize) -> Sizes {
     Sizes {
         properties: 1,
         rows,
@@ -33,7 +33,7 @@ const FIRST_FACTOR: Call = Call::AskFactor {
 };
 
 // An entry is a row, a column and an amount.
-type Entry = (usize, usize, i64);
+pub(crate) type Entry = (usize, usize, i64);
 
 fn enter((row, column, amount): Entry) -> Call {
     let at = Place {
@@ -44,7 +44,7 @@ fn enter((row, column, amount): Entry) -> Call {
     Call::Enter { at, amount }
 }
 
-fn calls(heap: Global, entries: &[Entry]) -> Result<Vec<Call>, AllocError> {
+pub(crate) fn calls(heap: Global, entries: &[Entry]) -> Result<Vec<Call>, AllocError> {
     let mut calls = Vec::new(heap);
     for &entry in entries {
         calls.push(enter(entry))?;

@@ -6,4 +6,6 @@ mod exposures;
 #[cfg(test)]
 mod factors;
 #[cfg(test)]
+mod layers;
+#[cfg(test)]
 mod operations;

@@ -8,10 +8,10 @@ use Rattle.paper.specs.Numbers.{over, amount_ceiling}
 use Rattle.paper.specs.Sums.{Sum, exact_of, steps_of}
 use Rattle.paper.specs.Forms.{Form, Lawful}
 use Rattle.paper.specs.Books.{Book, Cell, exposure}
-use Rattle.paper.specs.Sources.{Cause, negative_exposure, amount_past, Meaning, past, step_past, amount_cause, first_of, or_else, rising, row_cause, gathering_past, exact_exposure, exposures_through, next_amounts_through, seen, quotient, quotient_ends, quotient_step, unless_caused, within, estimated}
+use Rattle.paper.specs.Sources.{Cause, negative_exposure, amount_past, Step, Meaning, past, step_past, amount_cause, first_of, or_else, rising, row_cause, gathering_past, exact_exposure, exposures_through, next_amounts_through, seen, quotient, quotient_ends, quotient_step, unless_caused, within, estimated}
 use Rattle.paper.specs.Laws.{Answered, AskedWithin, RightCause, Sound}
 
-loosen : (w : ℤ) (a b : ℕ) → a ≤ b → w ≤ℤ pos a → w ≤ℤ pos b
+pub loosen : (w : ℤ) (a b : ℕ) → a ≤ b → w ≤ℤ pos a → w ≤ℤ pos b
 loosen w a b h k = omega (arith, ints)
 
 nought : (a : ℕ) → (pos 0 -ℤ pos 0) ≤ℤ pos a
@@ -40,7 +40,7 @@ abbrev pub Holds : {A : Type 0} → (A → Type 0) → Option A → Type 0
 Holds P (Some a) = P a
 Holds P None = Unit {0}
 
-or_holds : {A : Type 0} (P : A → Type 0) (o other : Option A) → Holds P o → Holds P other → Holds P (or_else o other)
+pub or_holds : {A : Type 0} (P : A → Type 0) (o other : Option A) → Holds P o → Holds P other → Holds P (or_else o other)
 or_holds P (Some a) other h k = h
 or_holds P None other h k = k
 
@@ -48,7 +48,7 @@ first_holds : {A E : Type 0} (P : E → Type 0) (f : A → Option E) → ((a : A
 first_holds P f h [] = tt
 first_holds P f h (x ∷ xs) = or_holds P (f x) (first_of f xs) (h x) (first_holds P f h xs)
 
-if_holds : {A : Type 0} (P : A → Type 0) (t : Bool) (o other : Option A) → (T t → Holds P o) → Holds P other → Holds P (cond t o other)
+pub if_holds : {A : Type 0} (P : A → Type 0) (t : Bool) (o other : Option A) → (T t → Holds P o) → Holds P other → Holds P (cond t o other)
 if_holds P true o other h k = h tt
 if_holds P false o other h k = k
 
@@ -56,18 +56,23 @@ past_holds : (amount : Cell → ℤ) (s : Sum Cell) → Holds (λ a. amount_ceil
 past_holds amount s = if_holds (λ a. amount_ceiling < nat_abs a) (past (exact_of amount s)) (Some (exact_of amount s)) None (ltb→lt amount_ceiling (nat_abs (exact_of amount s))) tt
 
 module _ (b : Book) (m k : ℕ) (asked : AskedWithin b m k) where
+  amount_caused : (before : List Step) (i : ℕ) (o : Option ℤ) → Holds (λ a. amount_ceiling < nat_abs a) o → Holds (RightCause b m k before) (amount_cause i o)
+  amount_caused before i (Some a) h = (asked, h)
+  amount_caused before i None h = tt
+
+  -- a step of an exposure past the ceiling is a cause, whatever came before it
+  pub gathering_caused : (before : List Step) (i : ℕ) → Holds (RightCause b m k before) (amount_cause i (gathering_past b m i k))
+  gathering_caused before i =
+      amount_caused before i (gathering_past b m i k) (first_holds (λ a. amount_ceiling < nat_abs a) (step_past b.amount) (past_holds b.amount) (steps_of (exposure b m i k)))
+
   abbrev Caused : Cause → Type 0
   Caused = RightCause b m k []
-
-  amount_caused : (i : ℕ) (o : Option ℤ) → Holds (λ a. amount_ceiling < nat_abs a) o → Holds Caused (amount_cause i o)
-  amount_caused i (Some a) h = (asked, h)
-  amount_caused i None h = tt
 
   row_caused : (i : ℕ) → Holds Caused (row_cause b m k i)
   row_caused i =
       let total = exposures_through b m k (i + 1) in
       or_holds Caused (amount_cause i (gathering_past b m i k)) _
-      (amount_caused i (gathering_past b m i k) (first_holds (λ a. amount_ceiling < nat_abs a) (step_past b.amount) (past_holds b.amount) (steps_of (exposure b m i k))))
+      (gathering_caused [] i)
       (if_holds Caused (lt_z (exact_exposure b m k i) (pos 0)) (Some (negative_exposure i)) _ (λ _. asked)
       (if_holds Caused (past total) (Some (amount_past i total)) None (λ t. (asked, ltb→lt amount_ceiling (nat_abs total) t)) tt))
 

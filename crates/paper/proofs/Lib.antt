@@ -1,4 +1,5 @@
 pub mod Covering
 pub mod EndsForm
 pub mod Estimating
+pub mod Layering
 pub mod CentreForm

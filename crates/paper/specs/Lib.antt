@@ -4,5 +4,6 @@ pub mod Forms
 pub mod EndsForm
 pub mod Books
 pub mod Sources
+pub mod Layers
 pub mod Laws
 pub mod CentreForm

@@ -1,2 +1,4 @@
 pub mod Asked
 pub mod Estimates
+pub mod Selecting
+pub mod Weighings

@@ -1,0 +1,31 @@
+-- Selected factors as they are kept, and why a new one is refused.
+use Rattle.std.specs.Prelude.{ℕ, cond, ◌||◌, List, [], ◌∷◌, replicate, ℤ, pos, negsuc, Some, None, Option, int_lt, nat_le, slice_index_or}
+use Rattle.book.specs.declared.faults.Ground.TheVariants.{NoProperty, NoColumn, FactorOutside}
+use Rattle.book.specs.declared.faults.Origin.TheVariants.{OfSource}
+use Rattle.book.specs.declared.faults.Place.{Place}
+use Rattle.book.specs.declared.faults.Fault.{Fault}
+use Rattle.book.specs.Grounds.{Test, test, fault_at, at_place}
+use Rattle.sources.specs.declared.selected.FactorRow.{FactorRow}
+
+-- the first condition that declines a setting, as a fault of the source at a place
+abbrev pub first_refused : Place → List Test → Option Fault
+first_refused p [] = None
+first_refused p (t ∷ ts) = cond t.declines (Some (fault_at OfSource p 0 t.ground)) (first_refused p ts)
+
+abbrev pub all_0 : FactorRow
+all_0 = record { factors = replicate 11 (pos 0) }
+
+abbrev pub row_of : List FactorRow → ℕ → FactorRow
+row_of rows m = slice_index_or rows m all_0
+
+-- the factor of a property from a column to the next, in ten-millionths
+abbrev pub chosen : List FactorRow → ℕ → ℕ → ℤ
+chosen rows m k = slice_index_or (row_of rows m).factors k (pos 0)
+
+abbrev pub selection_fault : ℕ → ℕ → ℤ → Option Fault
+selection_fault m k f =
+    first_refused (at_place m 0 k)
+    (test (nat_le 4 m) NoProperty
+    ∷ test (nat_le 11 k) NoColumn
+    ∷ test (int_lt f (negsuc 199999999) || int_lt (pos 200000000) f) FactorOutside
+    ∷ [])
