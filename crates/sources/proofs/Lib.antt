@@ -1,3 +1,4 @@
 pub mod Exactly
 pub mod Rows
 pub mod Layering
+pub mod Choosing

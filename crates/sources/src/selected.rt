@@ -1,7 +1,7 @@
 // The selected source: factors that are set one by one, in ten-millionths.
-ghost use Rattle.std.specs.Prelude.{◌≡◌, ◌<◌, None, Some, MatchResult, replicate, slice_set, pos};
+ghost use Rattle.std.specs.Prelude.{◌≡◌, ◌==◌, ℕ, ◌<◌, cond, None, Some, MatchResult, replicate};
 ghost use Rattle.paper.specs.Layers.{selected};
-ghost use Rattle.sources.specs.Selecting.{all_0, chosen, row_of, selection_fault};
+ghost use Rattle.sources.specs.Selecting.{all_0, chosen, factor_of, selection_fault, with_choice};
 ghost use Rattle.paper.proofs.Layering.{selected_sound};
 ghost use Rattle.std.proofs.Common.{rules};
 
@@ -26,7 +26,7 @@ pub struct Selected {
 impl FactorRow {
     fn set(&mut self, column: usize, factor: i64)
         requires { column < 11 }
-        ensures { self.new.factors ≡ slice_set self.old.factors column factor }
+        ensures { (k : ℕ) → factor_of self.new k ≡ cond (column == k) factor (factor_of self.old k) }
     {
         self.factors[column] = factor;
     }
@@ -46,7 +46,7 @@ impl Selected {
     pub fn set(&mut self, property: usize, column: usize, factor: i64) -> Result<(), Fault>
         ensures { MatchResult result
             (λ _. (selection_fault property column factor ≡ None)
-            × (self.new.rows ≡ slice_set self.old.rows property (record { factors = slice_set (row_of self.old.rows property).factors column factor })))
+            × (chosen self.new.rows ≡ with_choice (chosen self.old.rows) property column factor))
             (λ e. (selection_fault property column factor ≡ Some e) × (self.new.rows ≡ self.old.rows)) }
     {
         let place = Place {
