@@ -45,10 +45,10 @@ pub record Test : Type 0 where
 abbrev pub test : Bool → Ground → Test
 test b g = record { declines = b; ground = g }
 
--- the first condition that declines, as a fault of the book at a place
-abbrev pub first_fault : Place → List Test → Option Fault
-first_fault p [] = None
-first_fault p (t ∷ ts) = cond t.declines (Some (fault_at OfBook p 0 t.ground)) (first_fault p ts)
+-- the first condition that declines, as a fault of an origin at a place
+abbrev pub first_fault : Origin → Place → List Test → Option Fault
+first_fault o p [] = None
+first_fault o p (t ∷ ts) = cond t.declines (Some (fault_at o p 0 t.ground)) (first_fault o p ts)
 
 -- what a form refuses with, by its caller's place
 abbrev pub form_ground : FormFault → Ground

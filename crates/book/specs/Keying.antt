@@ -3,6 +3,7 @@ use Rattle.std.specs.Prelude.{ℕ, ◌+◌, Bool, ◌&&◌, ◌||◌, List, [], 
 use Rattle.paper.specs.Books as paper
 use Rattle.book.specs.declared.faults.Ground.TheVariants.{SizesOutside, NoProperty, NoRow, NoColumn, NotObserved, EntryLimit, ShiftOutside, NoReach, CoefficientOutside, RuleFull}
 use Rattle.book.specs.declared.faults.Place.{Place}
+use Rattle.book.specs.declared.faults.Origin.TheVariants.{OfBook}
 use Rattle.book.specs.declared.faults.Fault.{Fault}
 use Rattle.book.specs.declared.kinds.Sizes.{Sizes}
 use Rattle.book.specs.declared.rules.Term.{Term}
@@ -14,7 +15,7 @@ outside low high a = int_lt a low || int_lt high a
 -- 1 to 4 properties, 1 to 16 rows, 1 to 12 columns, and no more columns than rows
 abbrev pub sizes_fault : Sizes → Option Fault
 sizes_fault s =
-    first_fault (at_place 0 0 0)
+    first_fault OfBook (at_place 0 0 0)
     (test (nat_lt s.properties 1 || nat_lt 4 s.properties) SizesOutside
     ∷ test (nat_lt s.rows 1 || nat_lt 16 s.rows) SizesOutside
     ∷ test (nat_lt s.columns 1 || nat_lt 12 s.columns) SizesOutside
@@ -23,7 +24,7 @@ sizes_fault s =
 
 abbrev pub entry_fault : paper.Book → Place → ℤ → Option Fault
 entry_fault b p a =
-    first_fault p
+    first_fault OfBook p
     (test (nat_le b.properties p.property) NoProperty
     ∷ test (nat_le b.rows p.row) NoRow
     ∷ test (nat_le b.columns p.column) NoColumn
@@ -42,4 +43,4 @@ term_tests b m t =
     ∷ []
 
 abbrev pub term_fault : paper.Book → ℕ → Term → Option Fault
-term_fault b m t = first_fault (at_place m 0 0) (term_tests b m t)
+term_fault b m t = first_fault OfBook (at_place m 0 0) (term_tests b m t)

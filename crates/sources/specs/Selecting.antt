@@ -1,16 +1,10 @@
 -- Selected factors as they are kept, and why a new one is refused.
-use Rattle.std.specs.Prelude.{ℕ, cond, ◌&&◌, ◌||◌, List, [], ◌∷◌, replicate, ℤ, pos, negsuc, Some, None, Option, int_lt, nat_le, slice_index_or, ◌==◌}
+use Rattle.std.specs.Prelude.{ℕ, cond, ◌&&◌, ◌||◌, List, [], ◌∷◌, replicate, ℤ, pos, negsuc, Option, int_lt, nat_le, slice_index_or, ◌==◌}
 use Rattle.book.specs.declared.faults.Ground.TheVariants.{NoProperty, NoColumn, FactorOutside}
 use Rattle.book.specs.declared.faults.Origin.TheVariants.{OfSource}
-use Rattle.book.specs.declared.faults.Place.{Place}
 use Rattle.book.specs.declared.faults.Fault.{Fault}
-use Rattle.book.specs.Grounds.{Test, test, fault_at, at_place}
+use Rattle.book.specs.Grounds.{test, first_fault, at_place}
 use Rattle.sources.specs.declared.selected.FactorRow.{FactorRow}
-
--- the first condition that declines a setting, as a fault of the source at a place
-abbrev pub first_refused : Place → List Test → Option Fault
-first_refused p [] = None
-first_refused p (t ∷ ts) = cond t.declines (Some (fault_at OfSource p 0 t.ground)) (first_refused p ts)
 
 abbrev pub all_0 : FactorRow
 all_0 = record { factors = replicate 11 (pos 0) }
@@ -31,7 +25,7 @@ with_choice f m k x n j = cond (m == n && k == j) x (f n j)
 
 abbrev pub selection_fault : ℕ → ℕ → ℤ → Option Fault
 selection_fault m k f =
-    first_refused (at_place m 0 k)
+    first_fault OfSource (at_place m 0 k)
     (test (nat_le 4 m) NoProperty
     ∷ test (nat_le 11 k) NoColumn
     ∷ test (int_lt f (negsuc 199999999) || int_lt (pos 200000000) f) FactorOutside
