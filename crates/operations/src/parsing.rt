@@ -17,6 +17,12 @@ fn numbers(words: &mut Words<'_>) -> Result<Numbers, NotUnderstood> {
     })
 }
 
+// A weight is typed as any whole number, so that -0 is one as well.
+fn weight(words: &mut Words<'_>) -> Result<u16, NotUnderstood> {
+    let weight: i64 = words.parse()?;
+    u16::try_from(weight).map_err(|_| NotUnderstood)
+}
+
 fn operation(words: &mut Words<'_>) -> Result<Operation, NotUnderstood> {
     match words.next().ok_or(NotUnderstood)? {
         "whole" => Ok(Operation::Whole(words.parse()?)),
@@ -24,7 +30,7 @@ fn operation(words: &mut Words<'_>) -> Result<Operation, NotUnderstood> {
         "times" => Ok(Operation::Times(words.parse()?, numbers(words)?)),
         "exact" => Ok(Operation::Exact(words.parse()?)),
         "ratio" => Ok(Operation::Ratio(words.parse()?, words.parse()?)),
-        "mix" => Ok(Operation::Mix(words.parse()?, numbers(words)?, numbers(words)?)),
+        "mix" => Ok(Operation::Mix(weight(words)?, numbers(words)?, numbers(words)?)),
         "apply" => Ok(Operation::Apply(numbers(words)?, numbers(words)?)),
         _ => Err(NotUnderstood),
     }

@@ -3,8 +3,8 @@ use crate::parsing::Request;
 use crate::working::Unanswered;
 use forms::centre::CentreRadius;
 use forms::two_ends::TwoEnds;
-use std::alloc::{AllocError, Global};
-use std::fmt::Write;
+use std::alloc::Global;
+use std::fmt::{self, Write};
 use typed::form::FormName;
 use typed::line::Line;
 
@@ -21,15 +21,22 @@ fn answer(line: Line<'_>) -> Result<Option<(i64, i64)>, Unanswered> {
     Ok(Some(ends))
 }
 
-// What is printed for an input.
-pub(crate) fn answers(heap: Global, text: &str) -> Result<String, AllocError> {
+// What is printed for an input. Want of memory for the words of a line, or of its answer, is an error of formatting, and else one
+// of memory; `main` prints which.
+pub(crate) fn answers(heap: Global, text: &str) -> anyhow::Result<String> {
     let mut out = String::new(heap);
     for line in text.lines().map(Line) {
-        match answer(line) {
-            Ok(None) => {}
-            Ok(Some((low, high))) => writeln!(out, "{line}: between {low} and {high}")?,
-            Err(unanswered) => writeln!(out, "{line}: {unanswered}")?,
+        let Some(answer) = answer(line).transpose() else {
+            continue;
+        };
+        write!(out, "{line}").map_err(fmt::Error::from)?;
+        out.push_str(": ")?;
+        match answer {
+            Ok((low, high)) => write!(out, "between {low} and {high}"),
+            Err(unanswered) => write!(out, "{unanswered}"),
         }
+        .map_err(fmt::Error::from)?;
+        out.push_str("\n")?;
     }
     Ok(out)
 }
