@@ -7,7 +7,7 @@ use lines::calls::{Call, Outcome, State};
 use lines::run::run;
 use sources::estimated::Estimated;
 use std::alloc::{AllocError, Global};
-use std::fmt::Write;
+use std::fmt::{self, Write};
 use std::vec;
 use typed::form::FormName;
 use typed::line::Line;
@@ -16,16 +16,14 @@ use typed::words::NotUnderstood;
 // A line of the input, and what it asks for: nothing, if it is skipped.
 #[derive(Clone, Copy)]
 struct Item<'a> {
-    number: usize,
     line: Line<'a>,
     request: Result<Option<Request>, NotUnderstood>,
 }
 
 fn items<'a>(heap: Global, text: &'a str) -> Result<Vec<Item<'a>>, AllocError> {
-    (1..)
-        .zip(text.lines().map(Line))
-        .map(|(number, line)| Item {
-            number,
+    text.lines()
+        .map(Line)
+        .map(|line| Item {
             line,
             request: line.read(Request::parse),
         })
@@ -67,7 +65,8 @@ impl Session {
         let opened = match ran {
             Ok(_) => Outcome::Accepted,
             Err(fault) => {
-                outcomes.clear();
+                // a book that is not open keeps no room for its calls
+                outcomes = Vec::new(self.heap);
                 Outcome::Refused(fault)
             }
         };
@@ -99,7 +98,9 @@ pub(crate) struct Printed {
     pub(crate) understood: bool,
 }
 
-pub(crate) fn answers(heap: Global, text: &str) -> Result<Printed, AllocError> {
+// Want of memory for the words of a line, or of what a call came to, is an error of formatting, and else one of memory; `main`
+// prints which.
+pub(crate) fn answers(heap: Global, text: &str) -> anyhow::Result<Printed> {
     let items = items(heap, text)?;
     let mut session = Session {
         heap,
@@ -109,18 +110,27 @@ pub(crate) fn answers(heap: Global, text: &str) -> Result<Printed, AllocError> {
     let mut out = String::new(heap);
     let mut rest = items.as_slice();
     while let [item, after @ ..] = rest {
-        let Item {
-            number,
-            line,
-            request,
-        } = *item;
+        let Item { line, request } = *item;
         match request {
             Ok(None) => {}
-            Ok(Some(request)) => match session.outcome(request, after)? {
-                Some(outcome) => writeln!(out, "{line}: {outcome}")?,
-                None => writeln!(out, "{line}: not taken: no book is open")?,
-            },
-            Err(fault) => writeln!(out, "line {number}: {fault}: {line}")?,
+            Ok(Some(request)) => {
+                write!(out, "{line}").map_err(fmt::Error::from)?;
+                out.push_str(": ")?;
+                match (request, session.outcome(request, after)?) {
+                    (_, None) => out.push_str("not taken: no book is open")?,
+                    (Request::Form(_) | Request::Open(_), Some(Outcome::Accepted)) => {
+                        out.push_str("accepted")?
+                    }
+                    (_, Some(outcome)) => write!(out, "{outcome}").map_err(fmt::Error::from)?,
+                }
+                out.push_str("\n")?;
+            }
+            Err(fault) => {
+                let number = items.len() - after.len();
+                write!(out, "line {number}: {fault}: ")?;
+                write!(out, "{line}").map_err(fmt::Error::from)?;
+                out.push_str("\n")?;
+            }
         }
         rest = after;
     }
