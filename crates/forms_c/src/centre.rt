@@ -3,8 +3,9 @@ ghost use Rattle.std.specs.Prelude.{◌≡◌, pos, IsTrue};
 ghost use Rattle.paper.specs.CentreForm.{centre_form};
 ghost use Rattle.forms_c.specs.Answered.{ratio_of, application_of, centre_amount, centre_factor, centre_answered};
 
-use crate::{apply, ratio};
+use crate::apply;
 use forms::centre::{CentreRadius, Centred, FactorRadius};
+use forms::{AMOUNT_CEILING, ProjectingForm, is_amount};
 
 // The centre and the radius of a result. A refused one has none: both are 0. C has no Option, so a flag stands
 // beside the numbers, and the functions say so: a ghost field would stand in each definition of an answer.
@@ -43,7 +44,10 @@ pub extern "C" fn centre_ratio(p: i64, q: i64) -> CentreAnswer
     ensures value { centre_answered centre_factor result ≡ ratio_of centre_form p q }
     ensures blank { IsTrue result.refused → (result.centre ≡ pos 0) × (result.radius ≡ pos 0) }
 {
-    ratio::<CentreRadius>(p, q).into()
+    if !is_amount(p) || q <= 0 || q > AMOUNT_CEILING {
+        return None::<FactorRadius>.into();
+    }
+    CentreRadius::ratio(p, q).ok().into()
 }
 
 // A factor applied to an amount, refused past the amount ceiling.

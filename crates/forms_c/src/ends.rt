@@ -3,8 +3,9 @@ ghost use Rattle.std.specs.Prelude.{◌≡◌, pos, IsTrue};
 ghost use Rattle.paper.specs.EndsForm.{ends_form};
 ghost use Rattle.forms_c.specs.Answered.{ratio_of, application_of, ends_amount, ends_factor, ends_answered};
 
-use crate::{apply, ratio};
+use crate::apply;
 use forms::two_ends::{EndPair, FactorEnds, TwoEnds};
+use forms::{AMOUNT_CEILING, ProjectingForm, is_amount};
 
 // The ends of a result. A refused one has none: both are 0. C has no Option, so a flag stands
 // beside the numbers, and the functions say so: a ghost field would stand in each definition of an answer.
@@ -43,7 +44,10 @@ pub extern "C" fn ends_ratio(p: i64, q: i64) -> EndsAnswer
     ensures value { ends_answered ends_factor result ≡ ratio_of ends_form p q }
     ensures blank { IsTrue result.refused → (result.low ≡ pos 0) × (result.high ≡ pos 0) }
 {
-    ratio::<TwoEnds>(p, q).into()
+    if !is_amount(p) || q <= 0 || q > AMOUNT_CEILING {
+        return None::<FactorEnds>.into();
+    }
+    TwoEnds::ratio(p, q).ok().into()
 }
 
 // A factor applied to an amount, refused past the amount ceiling.
