@@ -1,5 +1,5 @@
 // Rules of terms, in a table of one record for each property.
-ghost use Rattle.std.specs.Prelude.{◌≡◌, ◌<◌, ◌≤◌, ◌↔◌, [], ◌∷◌, ◌++◌, All, length, replicate, slice_set, IsTrue};
+ghost use Rattle.std.specs.Prelude.{◌≡◌, ◌<◌, ◌≤◌, ◌↔◌, [], ◌∷◌, ◌++◌, All, length, replicate, slice_set, take, IsTrue};
 ghost use Rattle.book.specs.Limits.{IsRuleTerm, rule_at};
 
 use std::marker::Model;
@@ -53,6 +53,19 @@ impl Rule {
             len: 0,
             terms: [blank; 6],
         }
+    }
+
+    // The first `len` of an array's terms; those past them are not kept.
+    pub fn of_first(len: usize, terms: &[Term; 6]) -> Rule
+        requires few { len ≤ 6 }
+        requires each { All IsRuleTerm (take len terms.now) }
+        ensures { result ≡ take len terms.now }
+    {
+        let mut rule = Rule::empty();
+        for term in &terms[..len] {
+            rule.push(*term);
+        }
+        rule
     }
 
     pub fn terms(&self) -> &[Term]

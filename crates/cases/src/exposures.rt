@@ -15,7 +15,7 @@ const SIZES: Sizes = Sizes {
     columns: 2,
 };
 
-// Twice the row before, less the row itself.
+// Twice the row before, less the row itself; what stands past these two terms is not read.
 fn rule() -> Rule
     ensures { ReadsWithin 1 result }
 {
@@ -31,10 +31,7 @@ fn rule() -> Rule
         reach: 2,
         coefficient: -1,
     };
-    let mut rule = Rule::empty();
-    rule.push(back);
-    rule.push(own);
-    rule
+    Rule::of_first(2, &[back, own, own, own, own, own])
 }
 
 // The cells of one property, row by row.
