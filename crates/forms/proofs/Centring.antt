@@ -189,13 +189,19 @@ module _ (w : ℕ) (c r e s m a x y : ℤ) (f : CentreSize 200000000 c r) (g : C
 -- an application, likewise
 module _ (c r e s m a x y : ℤ) (f : CentreSize 200000000 c r) (g : CentreSize 40000000000 e s) (m-fits : SFits w64 m) (a-fits : SFits w64 a) (x_Fits : SFits w64 x) (y-fits : SFits w64 y)
     (m-is : m ≡ to_z w64 (of_z w64 c) *ℤ to_z w64 (of_z w64 e))
-    (a-is : a ≡ exact_radius (centred c r) (centred e s))
+    (a-is : a ≡ exact_radius (centred (to_z w64 (of_z w64 c)) (to_z w64 (of_z w64 r))) (centred (to_z w64 (of_z w64 e)) (to_z w64 (of_z w64 s))))
     (x-is : x ≡ floor_div (to_z w64 (of_z w64 m)) 10000000) (y-is : y ≡ ceil_div (to_z w64 (of_z w64 a)) 10000000 +ℤ rest (to_z w64 (of_z w64 m)) 10000000) where
   product_is' : to_z w64 (of_z w64 m) ≡ c *ℤ e
   product_is' = to_z-of_z w64 m m-fits ∙ m-is ∙ rw (centre_reads 200000000 c r (lit≤ tt) f, centre_reads 40000000000 e s (lit≤ tt) g)
 
+  factor_same : centred (to_z w64 (of_z w64 c)) (to_z w64 (of_z w64 r)) ≡ centred c r
+  factor_same = let p = centre_reads 200000000 c r (lit≤ tt) f in let q = radius_reads 200000000 c r (lit≤ tt) f in cc
+
+  amount_same : centred (to_z w64 (of_z w64 e)) (to_z w64 (of_z w64 s)) ≡ centred e s
+  amount_same = let p = centre_reads 40000000000 e s (lit≤ tt) g in let q = radius_reads 40000000000 e s (lit≤ tt) g in cc
+
   spread_is' : to_z w64 (of_z w64 a) ≡ exact_radius (centred c r) (centred e s)
-  spread_is' = to_z-of_z w64 a a-fits ∙ a-is
+  spread_is' = to_z-of_z w64 a a-fits ∙ a-is ∙ ap (λ (z : Centre). exact_radius z (centred (to_z w64 (of_z w64 e)) (to_z w64 (of_z w64 s)))) factor_same ∙ ap (λ (z : Centre). exact_radius (centred c r) z) amount_same
 
   centre_applied : to_z w64 (of_z w64 x) ≡ floor_div (c *ℤ e) 10000000
   centre_applied = to_z-of_z w64 x x_Fits ∙ x-is ∙ ap (λ z. floor_div z 10000000) product_is'

@@ -148,13 +148,26 @@ fits_product z h = let k = h.size in omega (arith, ints)
 -- an application, likewise
 module _ (x y c d p q l h : ℤ) (f : Factor (both x y)) (a : Amount (both c d))
     (p-fits : SFits w64 p) (q-fits : SFits w64 q) (l-fits : SFits w64 l) (h_fits : SFits w64 h)
-    (p_is : p ≡ least (both x y) (both c d)) (q_is : q ≡ greatest (both x y) (both c d))
+    (p_is : p ≡ least (both (to_z w64 (of_z w64 x)) (to_z w64 (of_z w64 y))) (both (to_z w64 (of_z w64 c)) (to_z w64 (of_z w64 d))))
+    (q_is : q ≡ greatest (both (to_z w64 (of_z w64 x)) (to_z w64 (of_z w64 y))) (both (to_z w64 (of_z w64 c)) (to_z w64 (of_z w64 d))))
     (l-is : l ≡ floor_div (to_z w64 (of_z w64 p)) 10000000) (h-is : h ≡ ceil_div (to_z w64 (of_z w64 q)) 10000000) where
+  factor_back : both (to_z w64 (of_z w64 x)) (to_z w64 (of_z w64 y)) ≡ both x y
+  factor_back = both_eq (back x (factor_low_fits x y f)) (back y (factor_high_fits x y f))
+
+  amount_back : both (to_z w64 (of_z w64 c)) (to_z w64 (of_z w64 d)) ≡ both c d
+  amount_back = both_eq (back c (low_fits c d a)) (back d (high_fits c d a))
+
+  least_back : to_z w64 (of_z w64 p) ≡ least (both x y) (both c d)
+  least_back = back p p-fits ∙ p_is ∙ ap (λ e. least e (both (to_z w64 (of_z w64 c)) (to_z w64 (of_z w64 d)))) factor_back ∙ ap (least (both x y)) amount_back
+
+  greatest_back : to_z w64 (of_z w64 q) ≡ greatest (both x y) (both c d)
+  greatest_back = back q q-fits ∙ q_is ∙ ap (λ e. greatest e (both (to_z w64 (of_z w64 c)) (to_z w64 (of_z w64 d)))) factor_back ∙ ap (greatest (both x y)) amount_back
+
   low_apply : to_z w64 (of_z w64 l) ≡ floor_div (least (both x y) (both c d)) 10000000
-  low_apply = back l l-fits ∙ l-is ∙ ap (λ z. floor_div z 10000000) (back p p-fits ∙ p_is)
+  low_apply = back l l-fits ∙ l-is ∙ ap (λ z. floor_div z 10000000) least_back
 
   high_apply : to_z w64 (of_z w64 h) ≡ ceil_div (greatest (both x y) (both c d)) 10000000
-  high_apply = back h h_fits ∙ h-is ∙ ap (λ z. ceil_div z 10000000) (back q q-fits ∙ q_is)
+  high_apply = back h h_fits ∙ h-is ∙ ap (λ z. ceil_div z 10000000) greatest_back
 
   pub apply_ends : both (to_z w64 (of_z w64 l)) (to_z w64 (of_z w64 h)) ≡ apply (both x y) (both c d)
   unfolding apply

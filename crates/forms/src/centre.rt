@@ -159,10 +159,10 @@ impl ProjectingForm for CentreRadius {
     }
 
     fn apply(f: &FactorRadius, a: &CentreRadius) -> Result<CentreRadius, FormFault> {
-        let factor = f.read();
-        let amount = a.read();
-        let middle = product(factor.0, amount.0);
-        let apart = spread(factor, amount);
+        let (c, r) = f.read();
+        let (e, s) = a.read();
+        let middle = product(c, e);
+        let apart = spread((c, r), (e, s));
         let (centre, radius) = rounded_around(middle, apart, SCALE);
         CentreRadius::held(centre, radius, FormFault::AmountCeiling)
     }

@@ -132,7 +132,9 @@ impl ProjectingForm for TwoEnds {
     }
 
     fn apply(f: &FactorEnds, a: &TwoEnds) -> Result<TwoEnds, FormFault> {
-        let (least, greatest) = product_range(f.read(), a.read());
+        let (x, y) = f.read();
+        let (c, d) = a.read();
+        let (least, greatest) = product_range((x, y), (c, d));
         TwoEnds::held(
             rounded_down(least, SCALE),
             rounded_up(greatest, SCALE),
