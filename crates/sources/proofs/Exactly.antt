@@ -63,7 +63,7 @@ module _ (P : Cell → Type 0) (cell : Cell → Ends) (amount : Cell → ℤ) (e
   abbrev stopped : Sum Cell → Option ℤ
   stopped s = first_of (step_past amount) (steps_of s)
 
-  evaluated_exact : (s : Sum Cell) → AllRead P s → evaluated cell s ≡ capped (stopped s) (exact_of amount s)
+  pub evaluated_exact : (s : Sum Cell) → AllRead P s → evaluated cell s ≡ capped (stopped s) (exact_of amount s)
   evaluated_exact nothing r = refl
   evaluated_exact (read c) r = ap Ok (exact c r)
   evaluated_exact (join x y) r =
@@ -88,7 +88,7 @@ module _ (s : Sizes) (i k : ℕ) (row : i < s.rows) (column : k < s.columns) whe
         | false ↦ (r, reads_reading t.reach t.property (i - t.shift) p (omega arith))
       ]
 
-  reads_terms : (so_far : Sum Cell) (ts : List Term) → AllRead (Within s) so_far → ReadsWithin s.properties ts → AllRead (Within s) (with_terms i k so_far (map term_of ts))
+  pub reads_terms : (so_far : Sum Cell) (ts : List Term) → AllRead (Within s) so_far → ReadsWithin s.properties ts → AllRead (Within s) (with_terms i k so_far (map term_of ts))
   reads_terms so_far [] r own = r
   reads_terms so_far (t ∷ ts) r own =
       reads_terms (with_term i k so_far (term_of t)) ts (reads_term so_far (term_of t) r (own 0 t (omega arith))) (All-tail (λ u. u.property < s.properties) t ts own)

@@ -51,7 +51,7 @@ told_unless m k None v f = refl
 abbrev pub with_exposures : ℤ → ℤ → Totals
 with_exposures a x = record { amounts = a; exposures = x }
 
-whole_is : (x : ℤ) → Amount (point x) → whole_ends x ≡ point x
+pub whole_is : (x : ℤ) → Amount (point x) → whole_ends x ≡ point x
 whole_is x a = grind (arith, ints)
 
 -- ---- a row whose exposure is above 0
@@ -96,12 +96,12 @@ amount_small b c = go (in_sizes b.sizes c) b.amounts (place_of b.sizes c) (cases
     go true xs j (inr past) all = rw get_or_past (omega arith)
     go false xs j o all = omega arith
 
-amounts_small : (b : Book) (m k n : ℕ) → nat_abs (next_amounts_through (book_of b) m k n) ≤ 1000000000 * n
+pub amounts_small : (b : Book) (m k n : ℕ) → nat_abs (next_amounts_through (book_of b) m k n) ≤ 1000000000 * n
 amounts_small b m k zero = omega arith
 amounts_small b m k (suc n) = grind (arith, ints, amounts_small b m k n, amount_small b (cell_at m n (k + 1)))
 
 -- exposures that count are above 0, so their sum is not below it
-exposures_positive : (b : paper.Book) (m k n : ℕ) → pos 0 ≤ℤ exposures_through b m k n
+pub exposures_positive : (b : paper.Book) (m k n : ℕ) → pos 0 ≤ℤ exposures_through b m k n
 exposures_positive b m k zero = omega (arith, ints)
 exposures_positive b m k (suc n) = grind (arith, ints, exposures_positive b m k n)
 
